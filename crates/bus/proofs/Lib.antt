@@ -1,0 +1,3 @@
+pub mod Bridged
+pub mod LegLists
+pub mod Members
