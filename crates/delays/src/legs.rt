@@ -9,7 +9,7 @@ use std::alloc::AllocError;
 use std::alloc::Global;
 
 // The legs that messages have on a bus, in the messages' order.
-pub fn legs_on(heap: Global, messages: &[Message], bus: u8) -> Result<Vec<Leg>, AllocError>
+pub(crate) fn legs_on(heap: Global, messages: &[Message], bus: u8) -> Result<Vec<Leg>, AllocError>
     ensures { λ r. ⌜ made r (λ v. vec-items v ≡ legsOn (now (messages .entry)) bus) ⌝ }
 {
     let mut legs = Vec::new(heap);

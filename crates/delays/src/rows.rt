@@ -13,7 +13,7 @@ use frames::equation::Equation;
 use frames::equations::EquationRule;
 
 // The set of all numbers puts every other leg of the bus above the message's, since what is no other leg counts for nothing.
-pub fn row_of<C: Carrier>(rule: &Equation<C>, legs: &[Leg], message: Message) -> Row
+pub(crate) fn row_of<C: Carrier>(rule: &Equation<C>, legs: &[Leg], message: Message) -> Row
     ensures number { λ r. ⌜ r .number ≡ message .number ⌝ }
     ensures frame { λ r. ⌜ r .frame ≡ C·Carrier .time (now (rule .entry) .carrier) (message .payload .bytes) ⌝ }
     ensures highest { λ r. ⌜ r .highest .value ≡ equation (C·Carrier .time (now (rule .entry) .carrier)) (C·Carrier .bit (now (rule .entry) .carrier)) (now (legs .entry)) (message .number) (member 0) ⌝ }

@@ -33,7 +33,7 @@ fn message(row: (u64, u64, u8, u64, u64, u64, u64)) -> Result<Message, AnyError>
     }
 }
 
-pub fn messages(heap: Global) -> Result<Vec<Message>, AnyError> {
+pub(crate) fn messages(heap: Global) -> Result<Vec<Message>, AnyError> {
     let mut all = Vec::new(heap);
     for row in TABLE {
         all.push(message(row)?)?;

@@ -1,0 +1,9 @@
+pub mod BoardLaws
+pub mod BusLegs
+pub mod Buses
+pub mod Elements
+pub mod Example
+pub mod Lawful
+pub mod OwnPairs
+pub mod RuleAt
+pub mod Sets

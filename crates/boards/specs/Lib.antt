@@ -1,0 +1,4 @@
+pub mod Boards
+pub mod Nets
+pub mod Laws
+pub mod Example
