@@ -26,7 +26,7 @@ kept-none : {X : Type 0} (f : X → Bool) → ((x : X) → f x ≡ false) → (x
 kept-none f h [] = refl
 kept-none f h (x ∷ xs) = ap (λ t. cond t (x ∷ kept-by f xs) (kept-by f xs)) (h x) ∙ kept-none f h xs
 
-local-no-pairs : (m : Message) → isLocal m ≡ true → pairsOf m ≡ []
+pub local-no-pairs : (m : Message) → isLocal m ≡ true → pairsOf m ≡ []
 local-no-pairs m h =
     let nowhere : destinationsOf m ≡ [] =
     ap (λ bits. kept-by (member bits) (busNumbers 8)) (eqb-true (m .destinations) 0 h) ∙ kept-none (member 0) member-none (busNumbers 8) in
@@ -55,7 +55,7 @@ pub legs-distinct : Legs-distinct
 legs-distinct b sound = buses-distinct (b .messages) (sound .messages .rise) (busNumbers (busCount b))
 
 -- ---------------------------------------------------------------- rules that are lent
-keeps-each : {S : Type 0} (f : S → Meaning) → ((s : S) → Keeps (f s)) → (xs : List S) → All Keeps (map f xs)
+pub keeps-each : {S : Type 0} (f : S → Meaning) → ((s : S) → Keeps (f s)) → (xs : List S) → All Keeps (map f xs)
 keeps-each f keeps [] = tt
 keeps-each f keeps (x ∷ xs) = (keeps x, keeps-each f keeps xs)
 

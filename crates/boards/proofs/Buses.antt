@@ -18,7 +18,7 @@ use Rattle.boards.proofs.BusLegs.{meant, has-bus, bus-distinct}
 use Rattle.boards.proofs.Elements.{numbers-is}
 
 module _ (ms : List Message) where
-  has-its-bus : (x : Leg) (bus : ℕ) → has x (netLegs ms bus) ≡ true → x .bus ≡ bus
+  pub has-its-bus : (x : Leg) (bus : ℕ) → has x (netLegs ms bus) ≡ true → x .bus ≡ bus
   has-its-bus x bus h = eqb-true (x .bus) bus (and-parts _ (some (meant bus (x .message)) ms) (sym (has-bus x ms bus) ∙ h) .0)
 
   pub any-among : (x : Leg) (ks : List ℕ) → Among (x .bus) ks → has x (netLegs ms (x .bus)) ≡ true → hasAny x (map (netLegs ms) ks) ≡ true

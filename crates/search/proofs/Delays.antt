@@ -6,7 +6,7 @@ use Prim.Native.Nat.{ℕ}
 use Rattle.std.specs.declared.option.Option.{Option}
 use Rattle.std.specs.declared.option.Option.the-variants.{Some, None}
 use Rattle.std.proofs.shelf.Elements.{all-weaker}
-use Rattle.std.proofs.shelf.Tests.{or-left}
+use Rattle.std.proofs.shelf.Tests.{and-parts, or-left}
 use Rattle.search.specs.Net.{Leg, Net, has, hasAny, less, Delays}
 use Rattle.search.specs.Deadlines.{Orders, delays}
 use Rattle.search.specs.Walk.{put, orElse}
@@ -24,6 +24,7 @@ use Rattle.search.specs.Stored.{
   complete,
   ordersAt,
   kept,
+  isEmpty,
   keptAt,
   stored,
   ordersOf,
@@ -34,9 +35,9 @@ use Rattle.search.proofs.Open.{Open}
 use Rattle.search.proofs.Marks.{marks}
 use Rattle.search.proofs.Ranking.{same-mark}
 use Rattle.search.proofs.Fits.{fit-gets}
-use Rattle.search.proofs.Place.{place-delays, place-ends, kept-below, was-open, did-fit, open-at, stored-each}
+use Rattle.search.proofs.Place.{place-delays, place-ends, kept-below, kept-placed, kept-placed-at, was-open, did-fit, open-at, stored-each}
 use Rattle.search.proofs.Filled.{orders-as-stored}
-use Rattle.search.proofs.Over.{complete-kept, complete-open}
+use Rattle.search.proofs.Over.{complete-open}
 
 -- Above the filled ranks fs stand orders of the open legs ls: in the orders of both, a ranked leg has its delay in p, and another the
 -- delay in its order.
@@ -72,7 +73,8 @@ marked-at net lawful (r ∷ rs) k =
     let below = kept-below net r rs k in
     let gets = fit-gets net (at .delays) (at .open′) x (r .delay) (did-fit net r rs k) in
     marked-advance net (filledBy net at x ∷ at .frames) (put (at .delays) x (Some (r .delay))) (less x (at .open′)) (at .later)
-    (marked-rank net lawful (at .frames) (at .delays) (at .open′) (at .later) (open-at net (lawful .apart) rs below) x (was-open net r rs k)
+    (marked-rank net lawful (at .frames) (at .delays) (at .open′) (at .later) (open-at net (lawful .apart) rs (kept-placed net rs below)) x
+    (was-open net r rs (kept-placed net (r ∷ rs) k))
     (r .delay) gets (marked-at net lawful rs below) (behind x (testsAt net rs)))
 
 -- ---------------------------------------------------------------- where all legs are ranked
@@ -89,17 +91,17 @@ orders-delays net (l ∷ ls) fs y = refl
 
 module _ (net : Net) (lawful : Lawful net) (rs : List Ranked) (h : keptAt net (complete rs) ≡ true) where
   k : kept net rs ≡ true
-  k = complete-kept net rs h
+  k = and-parts (isEmpty (placeOf net rs .open′)) (kept net rs) h .1
 
   none : placeOf net rs .open′ ≡ []
-  none = complete-open net rs h
+  none = complete-open net rs (kept-placed-at net (complete rs) h)
 
   nothing-open : Orders ([] ∷ []) (placeOf net rs .open′ ∷ placeOf net rs .later)
   nothing-open = rw (none, place-ends net rs none) (refl, tt)
 
   found-delay : (y : Leg) → delays net (ordersOf net rs) y ≡ stored rs y
   found-delay y =
-      ap (λ (os : List (List Leg)). delays net os y) (sym (orders-as-stored net (lawful .apart) rs k none))
+      ap (λ (os : List (List Leg)). delays net os y) (sym (orders-as-stored net (lawful .apart) rs (kept-placed net rs k) none))
       ∙ orders-delays net (net .buses) (placeOf net rs .frames) y
       ∙ marked-at net lawful rs k ([] ∷ []) nothing-open y
       ∙ or-else-none (placeOf net rs .delays y)
@@ -110,5 +112,5 @@ found-delays-are-stored net lawful rs h =
     record {
       table = found-delay net lawful rs h;
       each = all-weaker (λ r. stored rs (r .leg) ≡ Some (r .delay)) (λ r. delays net (ordersOf net rs) (r .leg) ≡ Some (r .delay))
-          (λ r e. found-delay net lawful rs h (r .leg) ∙ e) rs (stored-each net (lawful .apart) rs (complete-kept net rs h));
+          (λ r e. found-delay net lawful rs h (r .leg) ∙ e) rs (stored-each net (lawful .apart) rs (kept-placed net rs (k net lawful rs h)));
     }

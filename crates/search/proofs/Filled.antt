@@ -20,7 +20,7 @@ use Rattle.search.specs.Stored.{
   placeOf,
   testsAt,
   ordersAt,
-  kept,
+  placed,
   stored,
   unranked,
   orNext,
@@ -31,7 +31,7 @@ use Rattle.search.specs.Stored.{
 use Rattle.search.proofs.Legs.{has-kept}
 use Rattle.search.proofs.Open.{Open, open-next-bus, open-ranked}
 use Rattle.search.proofs.RankedLegs.{unranked-less, unranked-all, open-append, full-still, order-more, orders-same, order-none}
-use Rattle.search.proofs.Place.{place-delays, place-ends, kept-below, was-open, open-at}
+use Rattle.search.proofs.Place.{place-delays, place-ends, placed-below, was-open, open-at}
 
 -- ---------------------------------------------------------------- buses apart
 has-any-append : (x : Leg) (h k : List (List Leg)) → hasAny x (h ++ k) ≡ (hasAny x h || hasAny x k)
@@ -129,7 +129,7 @@ filled-at-first bs l ls e a =
     (filled-advance (l ∷ ls) [] [] (λ _. None) l ls (record { apart = subst Apart e a; none = λ y m. refl }) (filled-first l ls))
 
 module _ (net : Net) (l : List Leg) (ls : List (List Leg)) (e : net .buses ≡ l ∷ ls) (a : Apart (net .buses)) where
-  filled-at : (rs : List Ranked) → kept net rs ≡ true →
+  filled-at : (rs : List Ranked) → placed net rs ≡ true →
       let at = placeOf net rs in
       Filled (l ∷ ls) rs (at .frames) (at .open′) (at .later)
   filled-at [] k = filled-at-first (net .buses) l ls e a
@@ -137,16 +137,16 @@ module _ (net : Net) (l : List Leg) (ls : List (List Leg)) (e : net .buses ≡ l
       let at = placeOf net rs in
       let on = was-open net r rs k in
       let opened : Open (stored rs) (at .open′ ∷ at .later) =
-      subst (λ (p : Delays). Open p (at .open′ ∷ at .later)) (place-delays net rs) (open-at net a rs (kept-below net r rs k)) in
+      subst (λ (p : Delays). Open p (at .open′ ∷ at .later)) (place-delays net rs) (open-at net a rs (placed-below net r rs k)) in
       filled-advance (l ∷ ls) (r ∷ rs) (filledBy net at (r .leg) ∷ at .frames) _ (less (r .leg) (at .open′)) (at .later)
       (open-ranked (stored rs) (r .leg) (Some (r .delay)) (at .open′) (at .later) opened on)
-      (filled-rank (l ∷ ls) (subst Apart e a) r rs (at .frames) (at .open′) (at .later) on (filled-at rs (kept-below net r rs k)) _ _ _ _)
+      (filled-rank (l ∷ ls) (subst Apart e a) r rs (at .frames) (at .open′) (at .later) on (filled-at rs (placed-below net r rs k)) _ _ _ _)
 
 -- in a net without buses no leg is ranked
-none-ranked : (net : Net) → net .buses ≡ [] → (rs : List Ranked) → kept net rs ≡ true → rs ≡ []
+none-ranked : (net : Net) → net .buses ≡ [] → (rs : List Ranked) → placed net rs ≡ true → rs ≡ []
 none-ranked net e [] k = refl
 none-ranked net e (r ∷ rs) k =
-    let none = none-ranked net e rs (kept-below net r rs k) in
+    let none = none-ranked net e rs (placed-below net r rs k) in
     let nothing : placeOf net rs .open′ ≡ [] =
     ap (λ (v : List Ranked). placeOf net v .open′) none ∙ ap (λ (v : List (List Leg)). firstPlace v .open′) e in
     grind (arith, was-open net r rs k, ap (has (r .leg)) nothing)
@@ -156,7 +156,7 @@ or-next-nil [] k f = f refl
 or-next-nil (x ∷ h) k f = refl
 
 -- the open legs are the unranked legs of the first bus that has any
-pub open-as-stored : (net : Net) → Apart (net .buses) → (rs : List Ranked) → kept net rs ≡ true →
+pub open-as-stored : (net : Net) → Apart (net .buses) → (rs : List Ranked) → placed net rs ≡ true →
     placeOf net rs .open′ ≡ firstOpen rs (net .buses)
 open-as-stored net a rs k = go (net .buses) refl
   where
@@ -173,7 +173,7 @@ open-as-stored net a rs k = go (net .buses) refl
         ∙ sym rest ∙ ap (firstOpen rs) (sym (e ∙ f .split))
 
 -- where all legs are ranked, the orders are the ranked legs of each bus
-pub orders-as-stored : (net : Net) → Apart (net .buses) → (rs : List Ranked) → kept net rs ≡ true → placeOf net rs .open′ ≡ [] →
+pub orders-as-stored : (net : Net) → Apart (net .buses) → (rs : List Ranked) → placed net rs ≡ true → placeOf net rs .open′ ≡ [] →
     ordersAt (net .buses) (placeOf net rs .frames) ≡ ordersOf net rs
 orders-as-stored net a rs k none = go (net .buses) refl
   where
@@ -191,10 +191,10 @@ orders-as-stored net a rs k none = go (net .buses) refl
         ap (λ (v : List (List Leg)). ordersAt v (placeOf net rs .frames)) e ∙ f .orders [] [] ∙ each ∙ ap (map (orderOf rs)) (sym all)
 
 -- what is computed from the delays and the open legs of a place can be computed from the ranked legs alone
-pub at-as-stored : {X : Type 0} (f : Delays → List Leg → X) (net : Net) → Apart (net .buses) → (rs : List Ranked) → kept net rs ≡ true →
+pub at-as-stored : {X : Type 0} (f : Delays → List Leg → X) (net : Net) → Apart (net .buses) → (rs : List Ranked) → placed net rs ≡ true →
     f (placeOf net rs .delays) (placeOf net rs .open′) ≡ f (stored rs) (firstOpen rs (net .buses))
 at-as-stored f net a rs k = ap₂ f (place-delays net rs) (open-as-stored net a rs k)
 
-pub tests-as-stored : (net : Net) → Apart (net .buses) → (rs : List Ranked) → kept net rs ≡ true →
+pub tests-as-stored : (net : Net) → Apart (net .buses) → (rs : List Ranked) → placed net rs ≡ true →
     testsAt net rs ≡ candidates net (stored rs) (firstOpen rs (net .buses))
 tests-as-stored net a rs k = at-as-stored (candidates net) net a rs k

@@ -1,3 +1,4 @@
+pub mod Alike
 pub mod Behind
 pub mod Bound
 pub mod Candidate
@@ -23,6 +24,7 @@ pub mod OwnPairs
 pub mod Place
 pub mod RankedLegs
 pub mod Ranking
+pub mod Ranks
 pub mod Room
 pub mod Run
 pub mod Shorter

@@ -13,9 +13,9 @@ use Rattle.search.specs.Stored.{
   complete,
   exhausted,
   stateOf,
-  kept,
+  placed,
   isEmpty,
-  keptAt,
+  placedAt,
   Over-where-no-try-is-left,
   Complete-has-its-orders,
 }
@@ -31,15 +31,15 @@ empty-is : (l : List Leg) → isEmpty l ≡ true → l ≡ []
 empty-is [] h = refl
 empty-is (x ∷ l) h = absurd (false≢true h)
 
--- the parts of what is kept where all legs are ranked
-module _ (net : Net) (rs : List Ranked) (h : keptAt net (complete rs) ≡ true) where
-  pub complete-kept : kept net rs ≡ true
-  complete-kept = and-parts (isEmpty (placeOf net rs .open′)) (kept net rs) h .1
+-- the parts of what is placed where all legs are ranked
+module _ (net : Net) (rs : List Ranked) (h : placedAt net (complete rs) ≡ true) where
+  pub complete-placed : placed net rs ≡ true
+  complete-placed = and-parts (isEmpty (placeOf net rs .open′)) (placed net rs) h .1
 
   pub complete-open : placeOf net rs .open′ ≡ []
-  complete-open = empty-is (placeOf net rs .open′) (and-parts (isEmpty (placeOf net rs .open′)) (kept net rs) h .0)
+  complete-open = empty-is (placeOf net rs .open′) (and-parts (isEmpty (placeOf net rs .open′)) (placed net rs) h .0)
 
 pub complete-has-its-orders : Complete-has-its-orders
 complete-has-its-orders net a rs h =
     ap (λ (os : List (List Leg)). let w : Walked = record { tries = 0; outcome = Some os } in w)
-    (orders-as-stored net a rs (complete-kept net rs h) (complete-open net rs h))
+    (orders-as-stored net a rs (complete-placed net rs h) (complete-open net rs h))

@@ -8,13 +8,13 @@ use Rattle.std.specs.shelf.Lists.{All}
 use Rattle.std.specs.declared.option.Option.{Option}
 use Rattle.std.specs.declared.option.Option.the-variants.{Some, None}
 use Rattle.std.proofs.shelf.Elements.{all-weaker}
-use Rattle.std.proofs.shelf.Tests.{and-parts, or-left}
+use Rattle.std.proofs.shelf.Tests.{and-parts, and-from, or-left}
 use Rattle.std.proofs.shelf.Ways.{tells}
 use Rattle.search.specs.Net.{Leg, Net, has, hasAny, less, Delays}
 use Rattle.search.specs.Walk.{put, fit}
 use Rattle.search.specs.Laws.{Apart}
 use Rattle.search.specs.Machine.{Frame, bus}
-use Rattle.search.specs.Stored.{Ranked, Place, advance, firstPlace, placeOf, gets, fitted, kept, stored}
+use Rattle.search.specs.Stored.{Ranked, Place, advance, firstPlace, placeOf, Stage, testing, complete, exhausted, gets, fitted, kept, keptAt, placed, placedAt, isEmpty, stored}
 use Rattle.search.proofs.Legs.{same-itself, same-tells}
 use Rattle.search.proofs.Open.{Open, open-ranked, open-next-bus}
 
@@ -79,38 +79,60 @@ module _ (net : Net) (r : Ranked) (rs : List Ranked) (k : kept net (r ∷ rs) �
       × (gets (fit net (placeOf net rs .delays) (placeOf net rs .open′) (r .leg)) (r .delay) ≡ true)
   parts = and-parts (has (r .leg) (placeOf net rs .open′)) _ (both .0)
 
-  pub was-open : has (r .leg) (placeOf net rs .open′) ≡ true
-  was-open = parts .0
+  kept-open : has (r .leg) (placeOf net rs .open′) ≡ true
+  kept-open = parts .0
 
   pub did-fit : fit net (placeOf net rs .delays) (placeOf net rs .open′) (r .leg) ≡ Some (r .delay)
   did-fit = gets-is _ (r .delay) (parts .1)
 
-pub open-at : (net : Net) → Apart (net .buses) → (rs : List Ranked) → kept net rs ≡ true → OpenAt (placeOf net rs)
+pub kept-placed : (net : Net) (rs : List Ranked) → kept net rs ≡ true → placed net rs ≡ true
+kept-placed net [] k = refl
+kept-placed net (r ∷ rs) k =
+    and-from (has (r .leg) (placeOf net rs .open′)) (placed net rs) (kept-open net r rs k) (kept-placed net rs (kept-below net r rs k))
+
+pub kept-placed-at : (net : Net) (s : Stage) → keptAt net s ≡ true → placedAt net s ≡ true
+kept-placed-at net (testing rs c) h =
+    let both = and-parts (has c (placeOf net rs .open′)) (kept net rs) h in
+    and-from (has c (placeOf net rs .open′)) (placed net rs) (both .0) (kept-placed net rs (both .1))
+kept-placed-at net (complete rs) h =
+    let both = and-parts (isEmpty (placeOf net rs .open′)) (kept net rs) h in
+    and-from (isEmpty (placeOf net rs .open′)) (placed net rs) (both .0) (kept-placed net rs (both .1))
+kept-placed-at net exhausted h = refl
+
+-- the parts of what is placed
+module _ (net : Net) (r : Ranked) (rs : List Ranked) (k : placed net (r ∷ rs) ≡ true) where
+  pub was-open : has (r .leg) (placeOf net rs .open′) ≡ true
+  was-open = and-parts (has (r .leg) (placeOf net rs .open′)) (placed net rs) k .0
+
+  pub placed-below : placed net rs ≡ true
+  placed-below = and-parts (has (r .leg) (placeOf net rs .open′)) (placed net rs) k .1
+
+pub open-at : (net : Net) → Apart (net .buses) → (rs : List Ranked) → placed net rs ≡ true → OpenAt (placeOf net rs)
 open-at net a [] k = open-first (net .buses) a
 open-at net a (r ∷ rs) k =
     let at = placeOf net rs in
-    let rest = open-at net a rs (kept-below net r rs k) in
+    let rest = open-at net a rs (placed-below net r rs k) in
     open-advance _ (put (at .delays) (r .leg) (Some (r .delay))) (less (r .leg) (at .open′)) (at .later)
     (open-ranked (at .delays) (r .leg) (Some (r .delay)) (at .open′) (at .later) rest (was-open net r rs k))
 
 -- ---------------------------------------------------------------- each delay is found
-pub was-unranked : (net : Net) → Apart (net .buses) → (r : Ranked) (rs : List Ranked) → kept net (r ∷ rs) ≡ true → stored rs (r .leg) ≡ None
+pub was-unranked : (net : Net) → Apart (net .buses) → (r : Ranked) (rs : List Ranked) → placed net (r ∷ rs) ≡ true → stored rs (r .leg) ≡ None
 was-unranked net a r rs k =
     let at = placeOf net rs in
     ap (λ (p : Delays). p (r .leg)) (sym (place-delays net rs))
-    ∙ open-at net a rs (kept-below net r rs k) .none (r .leg)
+    ∙ open-at net a rs (placed-below net r rs k) .none (r .leg)
     (or-left (has (r .leg) (at .open′)) (hasAny (r .leg) (at .later)) (was-open net r rs k))
 
 stored-before : (r s : Ranked) (rs : List Ranked) → stored rs (r .leg) ≡ None → stored rs (s .leg) ≡ Some (s .delay) →
     stored (r ∷ rs) (s .leg) ≡ Some (s .delay)
 stored-before r s rs n e = grind (arith, same-tells (r .leg) (s .leg))
 
-pub stored-each : (net : Net) → Apart (net .buses) → (rs : List Ranked) → kept net rs ≡ true →
+pub stored-each : (net : Net) → Apart (net .buses) → (rs : List Ranked) → placed net rs ≡ true →
     All (λ r. stored rs (r .leg) ≡ Some (r .delay)) rs
 stored-each net a [] k = tt
 stored-each net a (r ∷ rs) k =
     let none = was-unranked net a r rs k in (
       grind (arith, same-itself (r .leg)),
       all-weaker (λ s. stored rs (s .leg) ≡ Some (s .delay)) (λ s. stored (r ∷ rs) (s .leg) ≡ Some (s .delay))
-          (λ s e. stored-before r s rs none e) rs (stored-each net a rs (kept-below net r rs k)),
+          (λ s e. stored-before r s rs none e) rs (stored-each net a rs (placed-below net r rs k)),
     )

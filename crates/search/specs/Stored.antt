@@ -3,8 +3,9 @@
 use mathlib.Core.Path.{_≡_}
 use mathlib.Core.Bool.{Bool, true, false, cond, not, _&&_}
 use mathlib.Core.List.{List, [], _∷_, _++_, map}
-use Prim.Native.Nat.{ℕ, zero, suc, min}
+use Prim.Native.Nat.{ℕ, zero, suc, _+_, min}
 use lib.Dec.{eqb}
+use lib.ListN.{length}
 use Rattle.std.specs.Options.{isSome}
 use Rattle.std.specs.Runs.{kept-by}
 use Rattle.std.specs.shelf.Lists.{All}
@@ -211,15 +212,31 @@ abbrev pub kept : Net → List Ranked → Bool
 kept net [] = true
 kept net (r ∷ rs) = fitted net (placeOf net rs) r && kept net rs
 
+-- the part of it that says nothing of the delays: each ranked leg was open at its place
+abbrev pub placed : Net → List Ranked → Bool
+placed net [] = true
+placed net (r ∷ rs) = has (r .leg) (placeOf net rs .open′) && placed net rs
+
 abbrev pub isEmpty : List Leg → Bool
 isEmpty [] = true
 isEmpty (x ∷ l) = false
 
--- the same of a stage: the leg tested next is open, and where the stage is complete no leg is
+-- k of the ranked legs of a stage; besides, the leg tested next is open, and where the stage is complete no leg is
+abbrev pub standing : Net → (List Ranked → Bool) → Stage → Bool
+standing net k (testing rs c) = has c (placeOf net rs .open′) && k rs
+standing net k (complete rs) = isEmpty (placeOf net rs .open′) && k rs
+standing net k exhausted = true
+
 abbrev pub keptAt : Net → Stage → Bool
-keptAt net (testing rs c) = has c (placeOf net rs .open′) && kept net rs
-keptAt net (complete rs) = isEmpty (placeOf net rs .open′) && kept net rs
-keptAt net exhausted = true
+keptAt net s = standing net (kept net) s
+
+abbrev pub placedAt : Net → Stage → Bool
+placedAt net s = standing net (placed net) s
+
+-- the number of legs of several buses
+abbrev pub legCount : List (List Leg) → ℕ
+legCount [] = 0
+legCount (l ∷ ls) = length l + legCount ls
 
 -- ---------------------------------------------------------------- the claims
 -- no leg stands twice in a list
@@ -252,18 +269,18 @@ abbrev pub Over-where-no-try-is-left : Type 0
 Over-where-no-try-is-left = (net : Net) (s : Stage) →
     (isOver s ≡ true → left net s .tries ≡ 0) × (left net s .tries ≡ 0 → isOver s ≡ true)
 
--- the stages of a walk are kept: the first, and after one try, or a run of tries, from any that is
-pub record Keeps (net : Net) : Type 0 where
-  pub first : keptAt net (startStage net) ≡ true
-  pub once : (s : Stage) → keptAt net s ≡ true → keptAt net (tryOnce net s) ≡ true
-  pub run : (n : ℕ) (s : Stage) → keptAt net s ≡ true → keptAt net (tryUpTo net n s .stage) ≡ true
+-- f holds of the stages of a walk: of the first, and after one try, or a run of tries, from any of which it holds
+pub record Keeps (net : Net) (f : Stage → Bool) : Type 0 where
+  pub first : f (startStage net) ≡ true
+  pub once : (s : Stage) → f s ≡ true → f (tryOnce net s) ≡ true
+  pub run : (n : ℕ) (s : Stage) → f s ≡ true → f (tryUpTo net n s .stage) ≡ true
 
 abbrev pub Every-stage-is-kept : Type 0
-Every-stage-is-kept = (net : Net) → Keeps net
+Every-stage-is-kept = (net : Net) → Keeps net (keptAt net) × Keeps net (placedAt net)
 
 -- where all legs are ranked, the outcome is their orders
 abbrev pub Complete-has-its-orders : Type 0
-Complete-has-its-orders = (net : Net) → Apart (net .buses) → (rs : List Ranked) → keptAt net (complete rs) ≡ true →
+Complete-has-its-orders = (net : Net) → Apart (net .buses) → (rs : List Ranked) → placedAt net (complete rs) ≡ true →
     left net (complete rs) ≡ record { tries = 0; outcome = Some (ordersOf net rs) }
 
 -- the delays stored are those in the orders found: for every leg, and so for each ranked one

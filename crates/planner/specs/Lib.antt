@@ -1,0 +1,12 @@
+pub mod BusOrders
+pub mod Calls
+pub mod Checks
+pub mod Logs
+pub mod Messages
+pub mod Partners
+pub mod Refusing
+pub mod Spots
+pub mod Stages
+pub mod Standing
+pub mod Storage
+pub mod Views

@@ -1,0 +1,9 @@
+// Tests of the board and its calls: the worked boards, refusals, and orders made by hand.
+#[cfg(test)]
+mod boards;
+#[cfg(test)]
+mod checks;
+#[cfg(test)]
+mod refusals;
+#[cfg(test)]
+mod walks;
