@@ -6,4 +6,6 @@ mod checks;
 #[cfg(test)]
 mod refusals;
 #[cfg(test)]
+mod sizes;
+#[cfg(test)]
 mod walks;

@@ -78,6 +78,27 @@ fn entering_and_withdrawing(rt: LibcRuntime) -> Result<(), Fail> {
 }
 
 #[test]
+fn smaller_number_first(rt: LibcRuntime) -> Result<(), Fail> {
+    let rules = rules()?;
+    let mut board = Board::new(rt.alloc())?;
+    board.make(&rules, 100_000)?;
+    board.enter(entry(7, 1, 2, 1_500_000))?;
+    check_eq(number(board.enter(entry(65, 3, 0, 1))), 3).note("3 before 4")?;
+    check_eq(number(board.enter(entry(65, 1, 1, 1))), 3).note("3 before 5")?;
+    check_eq(number(board.enter(entry(7, 1, 2, 0))), 3).note("3 before 6")?;
+    check_eq(number(board.enter(entry(7, 3, 0, 1))), 4).note("4 before 6")?;
+    check_eq(number(board.enter(entry(7, 1, 1, 1))), 5).note("5 before 6")?;
+    check_eq(number(board.look(9, 8)), 3).note("3 before 7 and 9")?;
+    check_eq(number(board.look(3, 8)), 4).note("4 before 7 and 9")?;
+    check_eq(number(board.look(2, 8)), 7).note("7 before 9")?;
+    board.withdraw(7)?;
+    check_eq(number(board.attempt(0)), 3).note("3 before 8")?;
+    check_eq(number(board.attempt(1)), 8)?;
+    let spot = Spot { bus: 1, message: 7 };
+    check_eq(number(board.check(&[spot], &mut [MARGIN; 0])), 8).note("8 before 11")
+}
+
+#[test]
 fn looking_and_listing(rt: LibcRuntime) -> Result<(), Fail> {
     let rules = rules()?;
     let mut board = Board::new(rt.alloc())?;
