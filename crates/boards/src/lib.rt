@@ -1,4 +1,6 @@
 // From a board to the net that is planned: each function's contract is a theorem over the definitions of specs/.
+#![tactic(auto)]
+
 ghost use Rattle.std.specs.Prelude.{map};
 ghost use Rattle.boards.specs.Example.{ExampleBoards};
 ghost use Rattle.boards.specs.Laws.{BoardLawful, LegsDistinct, LegsListed, LegsOfMessages, LegsRise, WalkLawsHold, WalkLawsOver};

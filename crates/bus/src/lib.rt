@@ -1,4 +1,6 @@
 // The values of the planner: messages, legs, sets of legs, refusals; and the rules that give a leg its delay.
+#![tactic(auto)]
+
 pub mod bridge;
 pub mod bridges;
 pub mod choice;

@@ -1,4 +1,6 @@
 // Prints the delays of the legs of a small trailer: each with nothing above it, and with every other leg of its bus above it.
+#![tactic(auto)]
+
 mod legs;
 mod row;
 mod rows;

@@ -1,3 +1,4 @@
+pub mod FdSums
 pub mod Steps
 pub mod Waits
 pub mod WorkedNumbers

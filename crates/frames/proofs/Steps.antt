@@ -1,9 +1,9 @@
 -- The loops over the legs of a bus: one leg more, and all of them.
-use Rattle.std.proofs.Common.{◌≡◌, ℕ, ◌+◌, ◌-◌, ◌*◌, ◌/◌, ◌%◌, ◌^◌, ◌<◌, ◌≤◌, min, max, Bool, cond, List, length, get_or, take, sum_by, sym, ap, ◌∙◌, div-le_self, arith, take_all}
+use Rattle.std.proofs.Common.{◌≡◌, ℕ, ◌+◌, ◌*◌, ◌/◌, ◌%◌, ◌^◌, ◌<◌, ◌≤◌, min, max, Bool, cond, List, length, get_or, take, sum_by, sym, ap, ◌∙◌, div-le_self, arith, take_all}
 use Rattle.std.proofs.lemmas.Nat.{mul-le}
 use Rattle.std.proofs.lemmas.List.Sums.{fold_more, sum_by_more}
 use Rattle.bus.specs.declared.leg.Leg.{Leg}
-use Rattle.frames.specs.Equation.{ceiling, time_of, blocking, above, demand_of, interference}
+use Rattle.frames.specs.Equation.{time_of, blocking, above, demand_of, interference}
 
 module _ (legs : List Leg) (i : ℕ) (leg : Leg) (within : i < length legs) (read : leg ≡ get_or legs i leg) where
   pub blocking-more : (time : ℕ → ℕ) (b r : ℕ) → b ≡ blocking time (take i legs) → r ≡ max b (time_of time leg) →

@@ -1,6 +1,6 @@
 -- The right side of the queuing equation: it does not fall with w, and it is no larger with fewer legs above.
-use Rattle.std.specs.Prelude.{◌≡◌, ℕ, ◌+◌, ◌-◌, ◌*◌, ◌/◌, ◌%◌, ◌<◌, ◌≤◌, min, Bool, true, false, cond, not, ◌&&◌, ◌≢◌, ◌⊎◌, List, [], ◌∷◌, is_some, Some, None, sum_by, ◌==◌, refl}
-use Rattle.std.proofs.Common.{sym, ap, subst, ◌∙◌, inl, inr, ⊎_elim, mul-le-mul_right, arith}
+use Rattle.std.specs.Prelude.{◌≡◌, ℕ, ◌*◌, ◌/◌, ◌<◌, ◌≤◌, Bool, true, false, cond, not, List, [], ◌∷◌, is_some, Some, sum_by, ◌==◌, refl}
+use Rattle.std.proofs.Common.{ap, ⊎_elim, mul-le-mul_right, arith}
 use Rattle.std.proofs.lemmas.Nat.{div-add-mod', le-div}
 use Rattle.std.proofs.lemmas.List.Sums.{sum_by-cons}
 use Rattle.std.proofs.lemmas.Bool.{cases_lt, eq-eqb, eqb-false, and_parts, and_from, not-true, false≢true}
@@ -8,7 +8,7 @@ use Rattle.std.specs.List.{AllByRecursion as All}
 use Rattle.bus.specs.Legs.{leg_of}
 use Rattle.bus.specs.Rules.{Part}
 use Rattle.bus.specs.declared.leg.Leg.{Leg}
-use Rattle.frames.specs.Equation.{ceiling, time_of, jitter_of, above, demand_of, interference, queued}
+use Rattle.frames.specs.Equation.{ceiling, time_of, above, demand_of, queued}
 use Rattle.frames.specs.Rising.{Rises}
 
 ceiling-rises : (b : ℕ) → 0 < b → Rises (λ a. ceiling a b)

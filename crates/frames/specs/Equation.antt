@@ -1,5 +1,5 @@
 -- The queuing equation of a leg, over any carrier: `time` is the carrier's time C of a payload, `tau` its bit time.
-use Rattle.std.specs.Prelude.{ℕ, ◌+◌, ◌-◌, ◌*◌, ◌/◌, ◌%◌, min, max, Bool, true, false, cond, not, ◌&&◌, List, Some, None, fold, sum_by, Option, ◌==◌}
+use Rattle.std.specs.Prelude.{ℕ, ◌+◌, ◌-◌, ◌*◌, ◌/◌, ◌%◌, min, max, Bool, cond, not, ◌&&◌, List, Some, None, fold, sum_by, Option, ◌==◌}
 use Rattle.bus.specs.Legs.{leg_of}
 use Rattle.bus.specs.Rules.{Meaning}
 use Rattle.bus.specs.declared.leg.Leg.{Leg}

@@ -1,10 +1,10 @@
--- The padded length is at most 64; the time of a payload on CAN FD, added up, and its range.
-use Rattle.std.specs.Prelude.{◌≡◌, ℕ, ◌+◌, ◌*◌, ◌<◌, ◌≤◌, Bool, true, false, cond, List, [], ◌∷◌, nat_le, refl}
-use Rattle.std.proofs.Common.{sym, ap, ◌∙◌, arith}
+-- The padded length is at most 64; the range of the time of a payload on CAN FD, which the carrier has as a law.
+use Rattle.std.specs.Prelude.{ℕ, ◌*◌, ◌≤◌}
+use Rattle.std.proofs.Common.{arith}
 use Rattle.std.proofs.lemmas.Nat.{mul-le}
 use Rattle.std.proofs.lemmas.Bool.Decides.{nat_tests}
 use Rattle.bus.specs.Range.{In, bit_times, payloads, frame_times}
-use Rattle.frames.specs.Fd.{data_times, padded, first_from, lengths, check_bits, fast_bits, fd_time, fd_sum}
+use Rattle.frames.specs.Fd.{data_times, padded, fast_bits, fd_time}
 
 pub padded-high : (s : ℕ) → s ≤ 64 → padded s ≤ 64
 padded-high s h = grind (arith, nat_tests)
@@ -14,12 +14,6 @@ fast_high n h = grind (arith, nat_tests)
 
 pub fast_low : (n : ℕ) → 1 ≤ fast_bits n
 fast_low n = omega arith
-
-fast_sum : (n : ℕ) → fast_bits n ≡ cond (nat_le n 16) (33 + 10 * n) (38 + 10 * n)
-fast_sum n = grind (arith, nat_tests)
-
-pub fd_sum_lem : (nominal quick s : ℕ) → fd_time nominal quick s ≡ fd_sum nominal quick (padded s)
-fd_sum_lem nominal quick s = ap (λ z. 34 * nominal + z * quick) (fast_sum (padded s))
 
 pub fd_range : (nominal quick s : ℕ) → In bit_times nominal → In (data_times nominal) quick → In payloads s → In frame_times (fd_time nominal quick s)
 fd_range nominal quick s a d p =

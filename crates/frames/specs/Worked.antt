@@ -1,10 +1,9 @@
 -- Worked numbers, with a bit time of 2000 ns, and 500 ns in the data phase of CAN FD.
-use Rattle.std.specs.Prelude.{◌≡◌, ℕ, Bool, true, false, List, [], ◌∷◌, Some, nat_eq, refl}
+use Rattle.std.specs.Prelude.{◌≡◌, ℕ, true, false, [], ◌∷◌, Some, nat_eq, refl}
 use Rattle.std.proofs.Common.{lit≤}
 use Rattle.bus.specs.Numbered.{member}
 use Rattle.bus.specs.Range.{In, numbers, periods, deadlines, jitters}
 use Rattle.bus.specs.declared.leg.Leg.{Leg}
-use Rattle.bus.specs.declared.message.Message.{Message}
 use Rattle.frames.specs.Classic.{can11_time, can29_time}
 use Rattle.frames.specs.Equation.{equation}
 use Rattle.frames.specs.Fd.{fd_time}

@@ -3,8 +3,7 @@ ghost use Rattle.std.specs.Prelude.{◌≡◌, true, false, MatchResult};
 ghost use Rattle.bus.specs.Range.{In, inside, bit_times};
 ghost use Rattle.bus.specs.declared.refusal.Refusal.TheVariants.{Range};
 ghost use Rattle.frames.specs.Classic.{can29_time};
-ghost use Rattle.std.proofs.Common.{arith, rules};
-ghost use Rattle.frames.specs.ClassicTimes.{classic_range};
+ghost use Rattle.frames.specs.ClassicTimes.{can29_range};
 
 use crate::carrier::Carrier;
 use crate::classic::classic_time;
@@ -34,9 +33,9 @@ impl Carrier for Can29 {
 
     ghost bit = { λ c. c.bit };
 
-    ghost timed = { λ c s p. classic_range 80 c.bit s (omega arith) (omega arith) c.range p };
+    ghost timed = { λ c s p. can29_range c.bit s c.range p };
 
-    ghost ticks = { first_of (Prim.search rules, Prim.grind (arith, Self.row.coded.inj)) };
+    ghost ticks = { λ c. c.range };
 
     fn frame_time(&self, payload: Payload) -> u64 {
         classic_time(80, self.bit, payload)

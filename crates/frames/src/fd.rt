@@ -4,7 +4,6 @@ ghost use Rattle.bus.specs.Range.{In, inside, bit_times};
 ghost use Rattle.bus.specs.declared.refusal.Refusal.TheVariants.{Range};
 ghost use Rattle.frames.specs.Fd.{data_times, padded, fast_bits, fd_time, fd_sum};
 ghost use Rattle.frames.specs.FdTimes.{fd_range};
-ghost use Rattle.std.proofs.Common.{rules, arith};
 
 use crate::carrier::Carrier;
 use bus::payload::Payload;
@@ -63,7 +62,7 @@ impl Carrier for Fd11 {
 
     ghost timed = { λ c s p. fd_range c.nominal c.fast s c.nominal_range c.fast_range p };
 
-    ghost ticks = { first_of (Prim.search rules, Prim.grind (arith, Self.row.coded.inj)) };
+    ghost ticks = { λ c. c.nominal_range };
 
     fn frame_time(&self, payload: Payload) -> u64
         ensures time { result ≡ fd_time self.now.nominal self.now.fast payload.bytes }

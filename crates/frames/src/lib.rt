@@ -1,4 +1,6 @@
 // Frame times of CAN and CAN FD, and the rule that gives a leg its delay by the queuing equation.
+#![tactic(auto)]
+
 pub mod can11;
 pub mod can29;
 pub mod carrier;

@@ -1,7 +1,7 @@
 -- A lawful board, written as a sheet, is read back.
 use Rattle.std.proofs.Common.{◌≡◌, ℕ, suc, ◌+◌, ◌-◌, ◌*◌, ◌≤◌, true, false, List, [], ◌∷◌, ◌++◌, map, length, drop, Some, None, codes, decimal, sym, refl, ap, ◌∙◌, ap₂, arith}
 use Rattle.std.specs.List.{flat_map}
-use Rattle.std.proofs.lemmas.List.{append_assoc, length-append, length_map, drop-drop, drop_at}
+use Rattle.std.proofs.lemmas.List.{append_assoc, length-append, length-map, drop-drop, drop_at}
 use Rattle.std.proofs.lemmas.Bool.{and_parts, cond-false, le-ltb}
 use Rattle.bus.specs.Range.{inside}
 use Rattle.bus.specs.declared.entry.Entry.{Entry}
@@ -231,7 +231,7 @@ module _ (c : Content) (is : Parts c) (ls : List TextLine) (shape : ls ≡ sheet
         ap length shape,
         length-append (bus_lines 1 c.buses) (map entry_line c.entries),
         buses-counted 1 c.buses,
-        length_map c.entries entry_line,
+        length-map c.entries entry_line,
       )
 
   wanted : (i : ℕ) (l : TextLine) → i ≤ 3 → line_at ls i ≡ Some l → tests_at ls i ≡ tests_of ls i l

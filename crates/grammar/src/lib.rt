@@ -1,4 +1,6 @@
 // What a sheet means: its lines and words, its faults, and the board that it describes. The readers are in another crate.
+#![tactic(auto)]
+
 pub mod bus_line;
 pub mod kind;
 pub mod laws;

@@ -1,4 +1,6 @@
 // Running a whole list of calls on a board: the answers given, and the law that they keep.
+#![tactic(auto)]
+
 pub mod answer;
 pub mod call;
 mod giving;

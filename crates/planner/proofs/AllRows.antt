@@ -1,7 +1,7 @@
 -- The rows of the first buses, one after another: how many there are, and that those of all buses are what is shown.
 use Rattle.std.proofs.Common.{◌≡◌, ℕ, zero, suc, ◌+◌, ◌≤◌, Bool, true, ◌&&◌, ltb, leb, List, [], ◌∷◌, ◌++◌, map, length, take, drop, sym, refl, ap, ◌∙◌, add-zero, zero-add, arith}
 use Rattle.std.specs.List.{filter}
-use Rattle.std.proofs.lemmas.List.{append-nil, append_assoc, length-append, length_map}
+use Rattle.std.proofs.lemmas.List.{append-nil, append_assoc, length-append, length-map}
 use Rattle.std.proofs.lemmas.Bool.Decides.{nat_tests}
 use Rattle.bus.specs.Rules.{Meaning}
 use Rattle.bus.specs.declared.message.Message.{Message}
@@ -118,7 +118,7 @@ module _ (ms : List Message) (rs : List Ranked) (legs : are_legs ms rs ≡ true)
       let net = net_of (board_of (map f rules) gateway ms) in
       ap (rows_of net) (orders-are (bus_numbers (length (map f rules))))
       ∙ rows_of-buses net rs (length (map f rules))
-      ∙ ap (rows_to net rs) (length_map rules f)
+      ∙ ap (rows_to net rs) (length-map rules f)
 
   -- the rows of all buses are written
   pub all-written : {S : Type 0} (f : S → Meaning) (rules : List S) (gateway k at : ℕ) (rows₀ rows : List Row) → k ≡ length rules →

@@ -38,7 +38,7 @@ placed_by rules gateway count ms e rs Exhausted h = board-placed_at rules gatewa
 module _ {S : Type 0} (f : S → Meaning) (keeps : (s : S) → Keeps (f s)) (board : Board S) where
   pub sound-of : Sound (board_in f board)
   sound-of =
-      board-sound f keeps board.rules.now board.gateway (vec_items board.messages) board.few board.rises board.on_buses_lem
+      board-sound f keeps board.rules.now board.gateway (vec_items board.messages) board.few board.rises board.on_buses
 
   pub placed_of : walk.placed_at (net_of (board_in f board)) (stage_of (net_of (board_in f board)) (vec_items board.ranked) board.stage) ≡ true
   placed_of =

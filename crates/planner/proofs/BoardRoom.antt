@@ -1,7 +1,7 @@
 -- A board has at most 512 legs, and fewer of them are ranked while one is open.
 use Rattle.std.proofs.Common.{◌≡◌, ℕ, zero, suc, ◌*◌, ◌<◌, ◌≤◌, true, List, [], ◌∷◌, map, length, Some, None, Option, arith}
 use Rattle.std.specs.Option.{option_to_list}
-use Rattle.std.proofs.lemmas.List.{length-append, length_map}
+use Rattle.std.proofs.lemmas.List.{length-append, length-map}
 use Rattle.bus.specs.Legs.{leg_on, legs_on}
 use Rattle.bus.specs.declared.leg.Leg.{Leg as BusLeg}
 use Rattle.bus.specs.declared.message.Message.{Message}
@@ -30,7 +30,7 @@ module _ (ms : List Message) (rises : rising_messages ms ≡ true) where
   legs_on-buses : (k n : ℕ) → leg_count (map (net_legs ms) (numbers_from k n)) ≤ 64 * n
   legs_on-buses k zero = omega arith
   legs_on-buses k (suc n) =
-      omega (arith, legs_on-buses (suc k) n, length_map (legs_on ms k) (net_leg k), legs_no_more ms k, rising-few ms rises)
+      omega (arith, legs_on-buses (suc k) n, length-map (legs_on ms k) (net_leg k), legs_no_more ms k, rising-few ms rises)
 
   pub room_for_one : (count : ℕ) (rs : List Ranked) → count ≤ 8 → placed (layout count ms) (ranked_of rs) ≡ true → (x : Leg) →
       has x (place_of (layout count ms) (ranked_of rs)).open' ≡ true → length rs < 512

@@ -1,6 +1,6 @@
 -- A test of every element: by tests that agree, of lists put together, and of a list turned round.
 use Rattle.std.proofs.Common.{◌≡◌, Bool, ◌&&◌, List, [], ◌∷◌, ◌++◌, reverse, refl, ap, ◌∙◌, arith}
-use mathlib.Core.List.{reverse_cons}
+use mathlib.Core.List.{reverse-cons}
 use Rattle.search.specs.Lists.{every}
 
 pub every-same : {X : Type 0} (f g : X → Bool) → ((x : X) → f x ≡ g x) → (xs : List X) → every f xs ≡ every g xs
@@ -13,4 +13,4 @@ every_append f (x ∷ xs) ys = grind (arith, every_append f xs ys)
 
 pub every-reverse : {X : Type 0} (f : X → Bool) (xs : List X) → every f (reverse xs) ≡ every f xs
 every-reverse f [] = refl
-every-reverse f (x ∷ xs) = ap (every f) (reverse_cons x xs) ∙ every_append f (reverse xs) (x ∷ []) ∙ grind (arith, every-reverse f xs)
+every-reverse f (x ∷ xs) = ap (every f) (reverse-cons x xs) ∙ every_append f (reverse xs) (x ∷ []) ∙ grind (arith, every-reverse f xs)

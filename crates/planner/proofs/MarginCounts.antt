@@ -1,7 +1,7 @@
 -- How many rows the margins take: whatever the orders, one for a local message, else one for each destination.
 use Rattle.std.proofs.Common.{◌≡◌, ℕ, ◌+◌, ◌*◌, ◌≤◌, Bool, true, false, cond, List, [], ◌∷◌, length, sym, refl, ◌∙◌, arith, length-append}
 use Rattle.std.specs.List.{flat_map, filter}
-use Rattle.std.proofs.lemmas.List.{length_map}
+use Rattle.std.proofs.lemmas.List.{length-map}
 use Rattle.bus.specs.Numbered.{member}
 use Rattle.bus.specs.declared.message.Message.{Message}
 use Rattle.search.specs.Net.{Leg, Net}
@@ -13,7 +13,7 @@ use Rattle.planner.specs.Spots.{rows_for}
 use Rattle.planner.specs.declared.rows.Margin.{Margin}
 
 pub margins_length : (net : Net) (os : List (List Leg)) (m : Message) → length (margins_of net os m) ≡ rows_for m
-margins_length net os m = go (is_local m) _ _ (length_map (destinations_of m) _)
+margins_length net os m = go (is_local m) _ _ (length-map (destinations_of m) _)
   where
     go : (t : Bool) (a : Margin) (b : List Margin) → length b ≡ length (destinations_of m) → length (cond t (a ∷ []) b) ≡ cond t 1 (length (destinations_of m))
     go true a b e = refl

@@ -1,7 +1,7 @@
 -- What the test of an order comes to: its legs are legs of the bus, none stands twice, and every leg of the bus is there. So it is the same
 -- from the other end.
 use Rattle.std.proofs.Common.{◌≡◌, ℕ, Bool, true, false, not, ◌&&◌, eqb, List, [], ◌∷◌, ◌++◌, map, reverse, sym, refl, ap, ◌∙◌, arith}
-use mathlib.Core.List.{reverse_cons}
+use mathlib.Core.List.{reverse-cons}
 use Rattle.std.specs.List.{filter}
 use Rattle.std.proofs.lemmas.List.{map_push}
 use Rattle.std.proofs.lemmas.Bool.{and_parts, true≢false}
@@ -38,7 +38,7 @@ is_order-orderly (x ∷ o) l = grind (arith, is_order-orderly o (less x l), ever
 -- ---------------------------------------------------------------- from the other end
 pub has-reverse : (x : Leg) (l : List Leg) → has x (reverse l) ≡ has x l
 has-reverse x [] = refl
-has-reverse x (y ∷ l) = ap (has x) (reverse_cons y l) ∙ has-append x (reverse l) (y ∷ []) ∙ grind (arith, has-reverse x l)
+has-reverse x (y ∷ l) = ap (has x) (reverse-cons y l) ∙ has-append x (reverse l) (y ∷ []) ∙ grind (arith, has-reverse x l)
 
 distinct_push : (x : Leg) (l : List Leg) → distinct (l ++ x ∷ []) ≡ (not (has x l) && distinct l)
 distinct_push x [] = refl
@@ -47,7 +47,7 @@ distinct_push x (y ∷ l) = grind (arith, distinct_push x l, has-append y l (x �
 pub distinct-reverse : (l : List Leg) → distinct (reverse l) ≡ distinct l
 distinct-reverse [] = refl
 distinct-reverse (x ∷ l) =
-    ap distinct (reverse_cons x l) ∙ distinct_push x (reverse l) ∙ grind (arith, distinct-reverse l, has-reverse x l)
+    ap distinct (reverse-cons x l) ∙ distinct_push x (reverse l) ∙ grind (arith, distinct-reverse l, has-reverse x l)
 
 order-reversed : (o l : List Leg) → is_order (reverse o) l ≡ is_order o l
 order-reversed o l =
@@ -58,7 +58,7 @@ order-reversed o l =
 map_reverse : {X Y : Type 0} (f : X → Y) (xs : List X) → map f (reverse xs) ≡ reverse (map f xs)
 map_reverse f [] = refl
 map_reverse f (x ∷ xs) =
-    ap (map f) (reverse_cons x xs) ∙ map_push f (reverse xs) x ∙ ap (λ l. l ++ f x ∷ []) (map_reverse f xs) ∙ sym (reverse_cons (f x) (map f xs))
+    ap (map f) (reverse-cons x xs) ∙ map_push f (reverse xs) x ∙ ap (λ l. l ++ f x ∷ []) (map_reverse f xs) ∙ sym (reverse-cons (f x) (map f xs))
 
 -- ---------------------------------------------------------------- the rows of a bus
 down_kept : (rows : List Spot) (bus : ℕ) → map (λ r. leg_at r.bus r.message) (filter (λ r. eqb r.bus bus) rows) ≡ down_in rows bus

@@ -1,6 +1,6 @@
 -- The turns of the loop that writes the rows of a message that crosses.
 use Rattle.std.proofs.Common.{◌≡◌, ℕ, ◌+◌, ◌<◌, ◌≤◌, true, false, List, ◌∷◌, map, length, set, sym, ap, subst, arith}
-use Rattle.std.proofs.lemmas.List.{length_map}
+use Rattle.std.proofs.lemmas.List.{length-map}
 use Rattle.bus.specs.Numbered.{member}
 use Rattle.bus.specs.declared.message.Message.{Message}
 use Rattle.boards.specs.Nets.{destinations_of}
@@ -25,10 +25,10 @@ module _ (row : ℕ → Margin) (m : Message) (before : List Margin) where
 
     -- there is room for one row more
     pub pair-room : i ≤ 8 → true ≡ member m.destinations i → n < length (destinations_of m)
-    pair-room h t = omega (arith, (at_here h t).left, length_map (destinations_of m) row)
+    pair-room h t = omega (arith, (at_here h t).left, length-map (destinations_of m) row)
 
     pub pairs-few : n ≤ 8
-    pairs-few = omega (arith, w.left, length_map (destinations_of m) row, destinations_few m)
+    pairs-few = omega (arith, w.left, length-map (destinations_of m) row, destinations_few m)
 
     pub pair-written : i ≤ 8 → true ≡ member m.destinations i → n < length now → (v : Margin) → v ≡ row i → Pairs row m before (set now n v) (i + 1) (n + 1)
     pair-written h t within v e =

@@ -2,7 +2,7 @@
 use Rattle.std.proofs.Common.{◌≡◌, ℕ, zero, suc, ◌<◌, ◌≤◌, Bool, true, false, not, leb, List, [], ◌∷◌, ◌++◌, map, length, get_or, Some, None, Option, sym, refl, ap, subst, inl, inr, arith}
 use Rattle.std.specs.List.{filter}
 use Rattle.std.specs.Option.{option_to_list}
-use Rattle.std.proofs.lemmas.List.{length_map}
+use Rattle.std.proofs.lemmas.List.{length-map}
 use Rattle.std.proofs.lemmas.Bool.{and_parts, and_from, not-true, or_cases, le-leb, true≢false, cases_Bool}
 use Rattle.bus.specs.Legs.{leg_on, legs_on}
 use Rattle.bus.specs.Range.{inside, numbers}
@@ -70,4 +70,4 @@ pub few_on_bus : (ms : List Message) (rs : List Ranked) (bus : ℕ) → length m
     length (order_on rs bus) ≤ 64
 few_on_bus ms rs bus few legs once =
     let at_most = few_kept (map leg_of_rank rs) (net_legs ms bus) once in
-    omega (arith, at_most, ap length (kept-order ms rs bus legs), few_legs ms bus, length_map (legs_on ms bus) (net_leg bus))
+    omega (arith, at_most, ap length (kept-order ms rs bus legs), few_legs ms bus, length-map (legs_on ms bus) (net_leg bus))

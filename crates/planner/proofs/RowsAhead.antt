@@ -1,6 +1,6 @@
 -- The legs that rows name ahead of a leg are those that stand behind it in the order of its bus; and the turns of a loop that collects them.
 use Rattle.std.proofs.Common.{◌≡◌, ℕ, ◌≤◌, Bool, true, false, cond, not, ◌&&◌, ◌||◌, eqb, List, [], ◌∷◌, reverse, sym, refl, ap, ◌∙◌, inl, inr, arith}
-use mathlib.Core.List.{reverse_cons}
+use mathlib.Core.List.{reverse-cons}
 use Rattle.std.proofs.lemmas.Bool.{and_parts, and_right, not-true, true≢false, both_ways, cases_Bool, eqb-true}
 use Rattle.std.proofs.lemmas.Bool.Decides.{nat_tests}
 use Rattle.bus.specs.Numbered.{member}
@@ -25,7 +25,7 @@ pub ahead-behind : (x y : Leg) (d : List Leg) → distinct d ≡ true → has x 
 ahead-behind x y [] one h = grind arith
 ahead-behind x y (z ∷ d) one h =
     let both = and_parts (not (has z d)) (distinct d) one in
-    let turned = ap (λ l. has y (behind x l)) (reverse_cons z d) in
+    let turned = ap (λ l. has y (behind x l)) (reverse-cons z d) in
     elim (cases_Bool (has x d)) [
       | inl on ↦
           let other : same x z ≡ false = elim (same-tells x z) [ inl e ↦ absurd (both_ways (has z d) (not-true _ both.0) (ap (λ v. has v d) (sym e.1) ∙ on)) | inr e ↦ e ] in

@@ -1,8 +1,8 @@
 -- The order of a bus, told from what the board stores.
 use Rattle.std.proofs.Common.{◌≡◌, ℕ, true, ◌&&◌, eqb, List, [], ◌∷◌, ◌++◌, map, reverse, is_some, sym, refl, ap, ◌∙◌, subst, inl, inr, arith}
-use mathlib.Core.List.{reverse_cons}
+use mathlib.Core.List.{reverse-cons}
 use Rattle.std.specs.List.{filter}
-use Rattle.std.proofs.lemmas.List.{map_append}
+use Rattle.std.proofs.lemmas.List.{map-append}
 use Rattle.std.proofs.lemmas.Bool.{and_parts, eqb-true, cases_Bool, cond-true, cond-false}
 use Rattle.bus.specs.declared.message.Message.{Message}
 use Rattle.search.specs.Lists.{some}
@@ -24,8 +24,8 @@ in_turn-push (x ∷ rs) r = ap (λ l. l ++ x.leg ∷ []) (in_turn-push rs r)
 pub in_turn-stored : (rs : List Ranked) → in_turn (ranked_of rs) ≡ map leg_of_rank rs
 in_turn-stored [] = refl
 in_turn-stored (r ∷ rs) =
-    ap (λ l. in_turn (map ranked_leg l)) (reverse_cons r rs)
-    ∙ ap in_turn (map_append ranked_leg (reverse rs) (r ∷ []))
+    ap (λ l. in_turn (map ranked_leg l)) (reverse-cons r rs)
+    ∙ ap in_turn (map-append ranked_leg (reverse rs) (r ∷ []))
     ∙ in_turn-push (ranked_of rs) (ranked_leg r)
     ∙ ap (λ l. leg_of_rank r ∷ l) (in_turn-stored rs)
 

@@ -1,6 +1,6 @@
 -- The ranked legs of a board without the latest, which is taken back.
 use Rattle.std.proofs.Common.{◌≡◌, ℕ, true, List, [], ◌∷◌, ◌++◌, map, length, Option, sym, ap, ◌∙◌, subst}
-use Rattle.std.proofs.lemmas.List.{reverse-append, length_map, length-reverse}
+use Rattle.std.proofs.lemmas.List.{reverse-append, length-map, length-reverse}
 use Rattle.bus.specs.declared.message.Message.{Message}
 use Rattle.search.specs.Net.{Leg, has}
 use Rattle.search.specs.Stored as walk
@@ -15,7 +15,7 @@ pub ranked-more : (rs : List Ranked) (r : Ranked) → ranked_of (rs ++ r ∷ [])
 ranked-more rs r = ap (map ranked_leg) (reverse-append rs (r ∷ []))
 
 pub ranked-count : (rs : List Ranked) → length (ranked_of rs) ≡ length rs
-ranked-count rs = simp (length_map, length-reverse)
+ranked-count rs = simp (length-map, length-reverse)
 
 module _ (ms : List Message) (all rs : List Ranked) (r : Ranked) (e : all ≡ rs ++ r ∷ []) (count : ℕ)
     (k : walk.placed (layout count ms) (ranked_of all) ≡ true) where

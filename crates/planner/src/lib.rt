@@ -1,4 +1,6 @@
 // The board and its calls.
+#![tactic(auto)]
+
 pub mod board;
 mod candidates;
 mod fits;

@@ -1,4 +1,6 @@
 // Tests of the board and its calls: the worked boards, refusals, and orders made by hand.
+#![tactic(auto)]
+
 #[cfg(test)]
 mod boards;
 #[cfg(test)]

@@ -2,7 +2,7 @@
 -- legs and the orders can be told from the ranked legs alone.
 use Rattle.std.proofs.Common.{◌≡◌, true, false, ◌||◌, List, [], ◌∷◌, ◌++◌, map, Some, None, sym, refl, ap, ◌∙◌, subst, ap₂, arith}
 use Rattle.std.specs.List.{filter}
-use Rattle.std.proofs.lemmas.List.{append-nil, append_assoc, map_append}
+use Rattle.std.proofs.lemmas.List.{append-nil, append_assoc, map-append}
 use Rattle.std.proofs.lemmas.Bool.{or_left}
 use Rattle.search.specs.Net.{Leg, Net, has, has_any, less, Delays}
 use Rattle.search.specs.Walk.{candidates}
@@ -69,7 +69,7 @@ filled-next_bus bs rs fs l ls o f =
 
     orders : (k : List Leg) (os : List (List Leg)) →
         plug (bus ∷ fs) (k ∷ os) ≡ map (order_of rs) (f.done ++ f.this ∷ []) ++ (order_of rs l ++ k) ∷ os
-    orders k os = f.orders [] (k ∷ os) ∙ rw (order-none rs l new) (rw (map_append, append_assoc, append-nil))
+    orders k os = f.orders [] (k ∷ os) ∙ rw (order-none rs l new) (rw (map-append, append_assoc, append-nil))
 
 filled-advance : (bs : List (List Leg)) (rs : List Ranked) (fs : List Frame) (p : Delays) (l : List Leg) (ls : List (List Leg)) →
     Open (stored rs) (l ∷ ls) → Filled bs rs fs l ls →
@@ -183,7 +183,7 @@ orders-as_stored net a rs k none = go net.buses refl
         let all : net.buses ≡ f.done ++ f.this ∷ [] =
         e ∙ f.split ∙ ap (λ (v : List (List Leg)). f.done ++ f.this ∷ v) (place-ends net rs none) in
         let each : map (order_of rs) f.done ++ (order_of rs f.this ++ []) ∷ [] ≡ map (order_of rs) (f.done ++ f.this ∷ []) =
-        rw (append-nil, map_append) in
+        rw (append-nil, map-append) in
         ap (λ (v : List (List Leg)). orders_at v (place_of net rs).frames) e ∙ f.orders [] [] ∙ each ∙ ap (map (order_of rs)) (sym all)
 
 -- what is computed from the delays and the open legs of a place can be computed from the ranked legs alone

@@ -1,9 +1,9 @@
 -- What the ranked legs alone say of a bus: which of its legs are not ranked, and the order of those that are.
 use Rattle.std.proofs.Common.{◌≡◌, true, false, List, [], ◌∷◌, ◌++◌, map, reverse, None, refl, ◌∙◌, arith}
-use mathlib.Core.List.{reverse_cons}
+use mathlib.Core.List.{reverse-cons}
 use Rattle.std.specs.List.{filter}
 use Rattle.std.proofs.lemmas.List.Elements.{filter-append}
-use Rattle.std.proofs.lemmas.List.{append-nil, map_append}
+use Rattle.std.proofs.lemmas.List.{append-nil, map-append}
 use Rattle.std.proofs.lemmas.Bool.{or_left, or_right}
 use Rattle.search.specs.Net.{Leg, same, has, has_any, less}
 use Rattle.search.specs.Stored.{Ranked, stored, unranked, or_next, first_open, in_turn, order_of}
@@ -35,7 +35,7 @@ full_still r rs (l ∷ ls) e = grind (arith, full_still r rs ls, unranked-less r
 -- for a program that stores the earliest first
 pub in_turn-is : (rs : List Ranked) → in_turn rs ≡ map (λ r. r.leg) (reverse rs)
 in_turn-is [] = refl
-in_turn-is (r ∷ rs) = rw (in_turn-is rs, reverse_cons, map_append)
+in_turn-is (r ∷ rs) = rw (in_turn-is rs, reverse-cons, map-append)
 
 -- a leg more, on this bus or on another
 pub order-more : (r : Ranked) (rs : List Ranked) (l : List Leg) → has r.leg l ≡ true → order_of (r ∷ rs) l ≡ order_of rs l ++ r.leg ∷ []

@@ -7,6 +7,8 @@
 // leaves a ranked leg among the open ones; try_not_counted: tries that are not reported; bound_without_own_try: a bound that counts no try of
 // its own rank; machine_goes_on_after_ready: a resumed walk that tests more than the walk does. The edits whose names begin with stored_ do the
 // same to what a program stores: it tests the first leg again, goes on after a ready leg, has its orders from the top, any delay, any leg.
+#![tactic(auto)]
+
 ghost use Rattle.search.specs.Example.{BoundOfTwelve, ExampleLawful, FoundAfterFive, FoundAtTheLimit, MeetsToTheNanosecond, NoneAfterThree, NoneBelowTheLimit, ReadyLegFirst};
 ghost use Rattle.search.specs.Laws.{FoundMeets, NoneMeets, WithinBound, WithinLocalBound};
 ghost use Rattle.search.specs.Machine.{EndedWhereNoTryIsLeft, OneTryLess, RunMakesWhatIsLeft, StartHasAll};

@@ -1,4 +1,6 @@
 // Plans a trailer with two buses through the calls of a board, and tells in print what each call answered.
+#![tactic(auto)]
+
 mod prints;
 
 use anyhow::anyhow;

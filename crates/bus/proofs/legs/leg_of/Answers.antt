@@ -10,15 +10,15 @@ loop-leg-preserved c = (
   omega arith,
   c.loop-leg.invariant.1
       ∙ leg_of-more c.args.legs.now c.loop-leg.leg-index c.leg-item.result c.args.number c.loop-leg-test.true c.leg-item.is
-      ∙ cond-false _ _ _ (sym c.is-of.ensures ∙ c.if-is-of.false),
+      ∙ cond-false _ _ _ (sym c.is_of.ensures ∙ c.if-is_of.false),
 )
 
-pub returns-then-is-of : goal.returns-then-is-of
-returns-then-is-of c =
+pub returns-then-is_of : goal.returns-then-is_of
+returns-then-is_of c =
     sym
     (c.loop-leg.invariant.1
     ∙ leg_of-more c.args.legs.now c.loop-leg.leg-index c.leg-item.result c.args.number c.loop-leg-test.true c.leg-item.is
-    ∙ cond-true _ _ _ (sym c.is-of.ensures ∙ c.if-is-of.true))
+    ∙ cond-true _ _ _ (sym c.is_of.ensures ∙ c.if-is_of.true))
 
 pub returns : goal.returns
 returns c =

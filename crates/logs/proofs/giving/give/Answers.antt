@@ -10,8 +10,8 @@ returns-in-Enter g c =
     let s = standing g.R.BusRule.answer c.args.board.now in
     let t = standing g.R.BusRule.answer c.enter.new.self in record {
       answer =
-          subst (λ x. Gives s (call_of x) (answer_of c.tell-change.result) t) (sym c.in-Enter.is)
-          (subst (λ a. Gives s (enter c.in-Enter.entry) a t) (sym c.tell-change.ensures) c.enter.ensures.answer);
+          subst (λ x. Gives s (call_of x) (answer_of c.tell_change.result) t) (sym c.in-Enter.is)
+          (subst (λ a. Gives s (enter c.in-Enter.entry) a t) (sym c.tell_change.ensures) c.enter.ensures.answer);
       kept = tt;
     }
 
@@ -20,8 +20,8 @@ returns-in-Withdraw g c =
     let s = standing g.R.BusRule.answer c.args.board.now in
     let t = standing g.R.BusRule.answer c.withdraw.new.self in record {
       answer =
-          subst (λ x. Gives s (call_of x) (answer_of c.tell-change-in-Withdraw.result) t) (sym c.in-Withdraw.is)
-          (subst (λ a. Gives s (withdraw c.in-Withdraw.number) a t) (sym c.tell-change-in-Withdraw.ensures) c.withdraw.ensures.answer);
+          subst (λ x. Gives s (call_of x) (answer_of c.tell_change-in-Withdraw.result) t) (sym c.in-Withdraw.is)
+          (subst (λ a. Gives s (withdraw c.in-Withdraw.number) a t) (sym c.tell_change-in-Withdraw.ensures) c.withdraw.ensures.answer);
       kept = tt;
     }
 
@@ -30,8 +30,8 @@ returns-in-Attempt g c =
     let s = standing g.R.BusRule.answer c.args.board.now in
     let t = standing g.R.BusRule.answer c.attempt.new.self in record {
       answer =
-          subst (λ x. Gives s (call_of x) (answer_of c.tell-attempt.result) t) (sym c.in-Attempt.is)
-          (subst (λ a. Gives s (attempt c.in-Attempt.tries) a t) (sym c.tell-attempt.ensures) c.attempt.ensures.answer);
+          subst (λ x. Gives s (call_of x) (answer_of c.tell_attempt.result) t) (sym c.in-Attempt.is)
+          (subst (λ a. Gives s (attempt c.in-Attempt.tries) a t) (sym c.tell_attempt.ensures) c.attempt.ensures.answer);
       kept = tt;
     }
 
@@ -39,8 +39,8 @@ pub returns-in-Look : goal.returns-in-Look
 returns-in-Look g c =
     let s = standing g.R.BusRule.answer c.args.board.now in record {
       answer =
-          subst (λ x. Gives s (call_of x) (answer_of c.tell-look.result) s) (sym c.in-Look.is)
-          (subst (λ a. Gives s (look c.in-Look.bus c.in-Look.message) a s) (sym c.tell-look.ensures) c.look.ensures);
+          subst (λ x. Gives s (call_of x) (answer_of c.tell_look.result) s) (sym c.in-Look.is)
+          (subst (λ a. Gives s (look c.in-Look.bus c.in-Look.message) a s) (sym c.tell_look.ensures) c.look.ensures);
       kept = tt;
     }
 
@@ -52,17 +52,17 @@ of_errors (Err y) P all = all y
 pub returns-in-List : goal.returns-in-List
 returns-in-List g c =
     let s = standing g.R.BusRule.answer c.args.board.now in record {
-      answer = subst (λ x. IfOk c.give-list.result (λ a. Gives s (call_of x) (answer_of a) s)) (sym c.in-List.is) c.give-list.ensures;
-      kept = of_errors c.give-list.result _ (λ _. refl);
+      answer = subst (λ x. IfOk c.give_list.result (λ a. Gives s (call_of x) (answer_of a) s)) (sym c.in-List.is) c.give_list.ensures;
+      kept = of_errors c.give_list.result _ (λ _. refl);
     }
 
 pub returns-in-Check : goal.returns-in-Check
 returns-in-Check g c =
     let s = standing g.R.BusRule.answer c.args.board.now in
-    let gave : IfOk c.give-check.result (λ a. Gives s (check (vec_items c.in-Check.orders) c.in-Check.lent) (answer_of a) s) =
-    subst (λ (rows : List Spot). IfOk c.give-check.result (λ a. Gives s (check rows c.in-Check.lent) (answer_of a) s)) c.deref.ensures.value
-    c.give-check.ensures
+    let gave : IfOk c.give_check.result (λ a. Gives s (check (vec_items c.in-Check.orders) c.in-Check.lent) (answer_of a) s) =
+    subst (λ (rows : List Spot). IfOk c.give_check.result (λ a. Gives s (check rows c.in-Check.lent) (answer_of a) s)) c.deref.ensures.value
+    c.give_check.ensures
     in record {
-      answer = subst (λ x. IfOk c.give-check.result (λ a. Gives s (call_of x) (answer_of a) s)) (sym c.in-Check.is) gave;
-      kept = of_errors c.give-check.result _ (λ _. refl);
+      answer = subst (λ x. IfOk c.give_check.result (λ a. Gives s (call_of x) (answer_of a) s)) (sym c.in-Check.is) gave;
+      kept = of_errors c.give_check.result _ (λ _. refl);
     }

@@ -8,11 +8,11 @@ use Rattle.logs.proofs.giving.give_list.Goals as goal
 pub returns-in-Ok : goal.returns-in-Ok
 returns-in-Ok g c =
     let s = standing g.R.BusRule.answer c.args.board.now in
-    let rows = c.in-ok-rows.rows in
-    let long : length c.deref-mut.result.now ≡ c.args.lent = c.deref-mut.ensures.len ∙ c.in-ok-rows.ensures.len in
+    let rows = c.in_ok-rows.rows in
+    let long : length c.deref_mut.result.now ≡ c.args.lent = c.deref_mut.ensures.len ∙ c.in_ok-rows.ensures.len in
     let cut : vec_items c.truncate.new.self ≡ take c.in-Ok.count c.list.new.rows =
     c.truncate.ensures.items
-    ∙ ap (take c.in-Ok.count) (with_items_is rows c.list.new.rows (c.list.auto.rows ∙ c.deref-mut.ensures.len))
+    ∙ ap (take c.in-Ok.count) (with_items_is rows c.list.new.rows (c.list.auto.rows ∙ c.deref_mut.ensures.len))
     in
     subst (λ (n : ℕ). Gives s (list n) (listed (vec_items c.truncate.new.self)) s) long
-    (subst (λ (xs : List Row). Gives s (list (length c.deref-mut.result.now)) (listed xs) s) (sym cut) c.in-Ok.ensures.answer)
+    (subst (λ (xs : List Row). Gives s (list (length c.deref_mut.result.now)) (listed xs) s) (sym cut) c.in-Ok.ensures.answer)

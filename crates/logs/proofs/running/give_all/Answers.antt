@@ -24,12 +24,12 @@ loop-call-preserved g c =
     let calls = c.args.calls.now in
     let before = vec_items c.loop-call.answers in
     let call = c.call-item.result in
-    let answer = c.in-ok-answer.answer in
+    let answer = c.in_ok-answer.answer in
     let at : c.loop-call.call-index ≡ length before = omega (arith, c.loop-call.invariant.1, c.loop-call.answers.ok.0) in
     let within : length before < length calls = omega (arith, at, c.loop-call-test.true) in
     let here : call ≡ get_or calls (length before) call = subst (λ (k : ℕ). call ≡ get_or calls k call) at c.call-item.is in (
-      subst (λ (xs : List Answer). Leads s (log_of calls xs) u) (sym c.push-reserved.ensures.items)
-          (turn s t u calls before call answer within here c.loop-call.invariant.0 c.in-ok-answer.ensures.answer),
-      omega (arith, c.push-reserved.ensures.len, c.loop-call.invariant.1),
-      omega (arith, c.push-reserved.ensures.capacity, c.loop-call.invariant.2),
+      subst (λ (xs : List Answer). Leads s (log_of calls xs) u) (sym c.push_reserved.ensures.items)
+          (turn s t u calls before call answer within here c.loop-call.invariant.0 c.in_ok-answer.ensures.answer),
+      omega (arith, c.push_reserved.ensures.len, c.loop-call.invariant.1),
+      omega (arith, c.push_reserved.ensures.capacity, c.loop-call.invariant.2),
     )

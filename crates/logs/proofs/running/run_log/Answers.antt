@@ -6,13 +6,13 @@ use Rattle.logs.proofs.Turns.{log_none}
 use Rattle.logs.proofs.running.run_log.Goals as goal
 
 -- memory was wanting for the answers: no call was made
-pub returns-then-is-err : goal.returns-then-is-err
-returns-then-is-err g c =
+pub returns-then-is_err : goal.returns-then-is_err
+returns-then-is_err g c =
     let f = g.R.BusRule.answer in
     let calls = c.args.calls.now in
     let log = log_of calls (vec_items c.reserve.new.self) in
     let s = standing f c.make.new.self in
-    let made = c.in-default.ensures in
+    let made = c.in_default.ensures in
     let empty : vec_items c.reserve.new.self ≡ [] = c.reserve.ensures.items ∙ c.clear.ensures.items in
     let none : log ≡ [] = ap (log_of calls) empty ∙ log_none calls in
     let leads : Leads s log s = subst (λ (ls : List Line). Leads s ls s) (sym none) refl in
@@ -22,21 +22,21 @@ returns-then-is-err g c =
 pub returns-in-Ok : goal.returns-in-Ok
 returns-in-Ok g c =
     let f = g.R.BusRule.answer in
-    let log = log_of c.args.calls.now (vec_items c.give-all.new.answers) in
+    let log = log_of c.args.calls.now (vec_items c.give_all.new.answers) in
     let s = standing f c.make.new.self in
-    let t = standing f c.give-all.new.board in
-    let made = c.in-default.ensures in
+    let t = standing f c.give_all.new.board in
+    let made = c.in_default.ensures in
     let ran = c.in-Ok.ensures in
     let kept = log_is_kept s (map f c.args.rules.now) c.args.gateway made.answer.1 made.law log t ran.leads in
     record { making = sym made.answer.0; kept = tt; law = kept.0; leads = kept.1; few = ran.few; all = ran.all }
 
-pub returns-in-Err-give-all : goal.returns-in-Err-give-all
-returns-in-Err-give-all g c =
+pub returns-in-Err-give_all : goal.returns-in-Err-give_all
+returns-in-Err-give_all g c =
     let f = g.R.BusRule.answer in
-    let log = log_of c.args.calls.now (vec_items c.give-all.new.answers) in
+    let log = log_of c.args.calls.now (vec_items c.give_all.new.answers) in
     let s = standing f c.make.new.self in
-    let t = standing f c.give-all.new.board in
-    let made = c.in-default.ensures in
-    let ran = c.in-Err-give-all.ensures in
+    let t = standing f c.give_all.new.board in
+    let made = c.in_default.ensures in
+    let ran = c.in-Err-give_all.ensures in
     let kept = log_is_kept s (map f c.args.rules.now) c.args.gateway made.answer.1 made.law log t ran.leads in
     record { making = sym made.answer.0; kept = tt; law = kept.0; leads = kept.1; few = ran.few; all = tt }

@@ -10,5 +10,5 @@ returns-in-Some c =
 pub returns-in-None : goal.returns-in-None
 returns-in-None c =
     λ rules gateway.
-    is_second _ _ _ c.in-None.ensures c.next-such-in-None.ensures
+    is_second _ _ _ c.in-None.ensures c.next_such-in-None.ensures
     ∙ sym (first-tested rules gateway c.args.messages.now c.requires c.args.ranked.now c.args.bus)

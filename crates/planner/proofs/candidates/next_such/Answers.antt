@@ -13,15 +13,15 @@ loop-message-preserved c =
     c.loop-message.invariant
     ∙ such_more c.args.ready c.args.ranked.now c.args.bus c.args.after c.args.messages.now c.requires
     c.loop-message.message-index c.message-item.result c.loop-message-test.true c.message-item.is
-    ∙ cond-false _ _ _ (sym c.is-such.ensures ∙ c.if-is-such.false)
+    ∙ cond-false _ _ _ (sym c.is_such.ensures ∙ c.if-is_such.false)
 
-pub returns-then-is-such : goal.returns-then-is-such
-returns-then-is-such c =
+pub returns-then-is_such : goal.returns-then-is_such
+returns-then-is_such c =
     sym
     (c.loop-message.invariant
     ∙ such_more c.args.ready c.args.ranked.now c.args.bus c.args.after c.args.messages.now c.requires
     c.loop-message.message-index c.message-item.result c.loop-message-test.true c.message-item.is
-    ∙ cond-true _ _ _ (sym c.is-such.ensures ∙ c.if-is-such.true))
+    ∙ cond-true _ _ _ (sym c.is_such.ensures ∙ c.if-is_such.true))
 
 pub returns : goal.returns
 returns c =

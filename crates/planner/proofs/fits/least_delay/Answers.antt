@@ -14,4 +14,4 @@ pub returns-in-None : goal.returns-in-None
 returns-in-None g c =
     open-least
     (rule_at (map g.R.BusRule.answer c.args.rules.now) c.args.bus (legs_on c.args.messages.now c.args.bus) c.args.number)
-    _ _ _ c.empty.ensures c.in-None.ensures c.delay-on.ensures
+    _ _ _ c.empty.ensures c.in-None.ensures c.delay_on.ensures

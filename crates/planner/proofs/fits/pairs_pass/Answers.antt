@@ -13,13 +13,13 @@ loop-destination-init g c =
     (passes (net_of (board_of (map g.R.BusRule.answer c.args.rules.now) c.args.gateway c.args.messages.now)) (stored (ranked_of c.args.ranked.now))
     (leg_at c.args.bus c.args.message.number) c.args.delay) c.args.message
 
-pub returns-then-not-pair-passes : goal.returns-then-not-pair-passes
-returns-then-not-pair-passes g c =
-    bus_failed _ c.loop-destination.destination _ c.loop-destination-test.true (sym c.if-not-pair-passes.ensures) c.loop-destination.invariant
+pub returns-then-not-pair_passes : goal.returns-then-not-pair_passes
+returns-then-not-pair_passes g c =
+    bus_failed _ c.loop-destination.destination _ c.loop-destination-test.true (sym c.if-not-pair_passes.ensures) c.loop-destination.invariant
 
 pub loop-destination-preserved : goal.loop-destination-preserved
 loop-destination-preserved g c =
-    bus_passed _ c.loop-destination.destination _ c.loop-destination-test.true (sym c.if-not-pair-passes.ensures) c.loop-destination.invariant
+    bus_passed _ c.loop-destination.destination _ c.loop-destination-test.true (sym c.if-not-pair_passes.ensures) c.loop-destination.invariant
 
 pub returns : goal.returns
 returns g c = buses-done _ c.loop-destination.destination _ c.loop-destination-test.false c.loop-destination.invariant

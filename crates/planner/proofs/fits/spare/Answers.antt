@@ -6,6 +6,13 @@ nowhere : member 0 1 ≡ false
 unfolding member
 nowhere = refl
 
-pub invariant-of-result-2 : goal.invariant-of-result-2
-invariant-of-result-2 c =
-    ((lit≤ tt, lit≤ tt), ((lit≤ tt, lit≤ tt), ((lit≤ tt, lit≤ tt), ((lit≤ tt, lit≤ tt), ((lit≤ tt, lit≤ tt), (nowhere, tt))))))
+pub invariant_of-result-2 : goal.invariant_of-result-2
+invariant_of-result-2 c =
+    record {
+      number_range = (lit≤ tt, lit≤ tt);
+      source_range = (lit≤ tt, lit≤ tt);
+      period_range = (lit≤ tt, lit≤ tt);
+      deadline_range = (lit≤ tt, lit≤ tt);
+      jitter_range = (lit≤ tt, lit≤ tt);
+      elsewhere = nowhere;
+    }

@@ -18,25 +18,25 @@ loop-left-init g c =
     let bus = c.args.bus in
     let none_yet = sym (order-none c.args.ranked.now bus) in (
       omega arith,
-      subst (λ (o : List Leg). Sees bus o c.none-seen-seen.result) none_yet c.none-seen-seen.ensures,
+      subst (λ (o : List Leg). Sees bus o c.none_seen-seen.result) none_yet c.none_seen-seen.ensures,
       λ gateway.
           subst (λ (o : List Leg). row_at bus c.args.message (rows_here (map g.R.BusRule.answer c.args.rules.now) gateway c.args.messages.now bus o) ≡ None)
           none_yet refl,
     )
 
-pub row-below-requires : goal.row-below-requires
-row-below-requires g c =
+pub row_below-requires : goal.row_below-requires
+row_below-requires g c =
     let rs = c.args.ranked.now in
     let few = few_on_bus c.args.messages.now rs c.args.bus c.requires.messages c.requires.legs c.requires.once in
     record { messages = c.requires.messages; few = omega (arith, few, c.loop-left.invariant.1.count, order-shorter rs c.args.bus c.loop-left.left) }
 
-pub returns-then-is-leg : goal.returns-then-is-leg
-returns-then-is-leg g c =
+pub returns-then-is_leg : goal.returns-then-is_leg
+returns-then-is_leg g c =
     λ gateway.
-    ap Some c.row-below.ensures
+    ap Some c.row_below.ensures
     ∙ row_found c.args.messages.now c.args.ranked.now g.R.BusRule.answer c.args.rules.now c.args.bus c.args.message
     c.requires.legs c.requires.bus.0 c.requires.bus.1 gateway c.loop-left.left none c.loop-left.seen c.loop-left-test.true
-    c.loop-left.invariant.0 c.loop-left.invariant.1 (c.loop-left.invariant.2 gateway) c.if-is-leg.ensures
+    c.loop-left.invariant.0 c.loop-left.invariant.1 (c.loop-left.invariant.2 gateway) c.if-is_leg.ensures
 
 pub see-seen-requires : goal.see-seen-requires
 see-seen-requires g c =
@@ -59,7 +59,7 @@ loop-left-preserved g c =
       subst (λ l. Sees bus l c.see-seen.result) (sym next) (c.see-seen.ensures o c.loop-left.invariant.1),
       λ gateway.
           row_not_yet bus c.args.message (net_of (board_of (map g.R.BusRule.answer c.args.rules.now) gateway c.args.messages.now)) (eqb r.bus bus) r.message o
-          (order_on (drop (left - 1) rs) bus) c.if-is-leg.ensures next (c.loop-left.invariant.2 gateway),
+          (order_on (drop (left - 1) rs) bus) c.if-is_leg.ensures next (c.loop-left.invariant.2 gateway),
     )
 
 pub returns : goal.returns

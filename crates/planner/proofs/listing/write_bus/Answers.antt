@@ -16,14 +16,14 @@ loop-left-init g c =
     let rows = c.args.rows.now in
     let none_yet = sym (order-none c.args.ranked.now bus) in (
       omega arith,
-      subst (λ (o : List Leg). Sees bus o c.none-seen-seen.result) none_yet c.none-seen-seen.ensures,
+      subst (λ (o : List Leg). Sees bus o c.none_seen-seen.result) none_yet c.none_seen-seen.ensures,
       λ gateway.
           subst (λ (o : List Leg). rows ≡ written c.args.at (rows_here (map g.R.BusRule.answer c.args.rules.now) gateway c.args.messages.now bus o) rows)
           none_yet (written_none c.args.at rows),
     )
 
-pub write-leg-requires : goal.write-leg-requires
-write-leg-requires g c =
+pub write_leg-requires : goal.write_leg-requires
+write_leg-requires g c =
     let rs = c.args.ranked.now in
     let bus = c.args.bus in
     let count = c.loop-left.invariant.1.count in
@@ -53,10 +53,10 @@ loop-left-preserved g c =
       subst (λ l. Sees bus l c.see-seen.result) (sym next) (c.see-seen.ensures o c.loop-left.invariant.1),
       λ gateway.
           rows_step (map g.R.BusRule.answer c.args.rules.now) gateway c.args.messages.now bus (eqb r.bus bus) r.message o
-          (order_on (drop (left - 1) rs) bus) c.loop-left.seen c.args.at c.args.rows.now c.loop-left.rows c.write-leg.new.rows
+          (order_on (drop (left - 1) rs) bus) c.loop-left.seen c.args.at c.args.rows.now c.loop-left.rows c.write_leg.new.rows
           c.loop-left.invariant.1
           (λ on. omega (arith, order-longer rs bus left none c.loop-left-test.true c.loop-left.invariant.0 on))
-          next (c.loop-left.invariant.2 gateway) c.write-leg.ensures,
+          next (c.loop-left.invariant.2 gateway) c.write_leg.ensures,
     )
 
 pub returns : goal.returns

@@ -9,8 +9,8 @@ pub loop-k-init : goal.loop-k-init
 loop-k-init g c = λ gateway. (refl, refl)
 
 -- the rows are as many at every gateway time: here 0
-pub write-bus-at-requires : goal.write-bus-at-requires
-write-bus-at-requires g c =
+pub write_bus-at-requires : goal.write_bus-at-requires
+write_bus-at-requires g c =
     let rs = c.args.ranked.now in
     let ms = c.args.messages.now in
     let net = net_of (board_of (map g.R.BusRule.answer c.args.rules.now) 0 ms) in
@@ -25,8 +25,8 @@ pub loop-k-preserved : goal.loop-k-preserved
 loop-k-preserved g c =
     λ gateway.
     bus_step (net_of (board_of (map g.R.BusRule.answer c.args.rules.now) gateway c.args.messages.now)) c.args.ranked.now c.loop-k.k
-    c.loop-k.at c.write-bus-at.result c.args.rows.now c.loop-k.rows c.write-bus-at.new.rows (c.loop-k.invariant gateway).0
-    (c.loop-k.invariant gateway).1 c.write-bus-at.ensures.end (c.write-bus-at.ensures.rows gateway)
+    c.loop-k.at c.write_bus-at.result c.args.rows.now c.loop-k.rows c.write_bus-at.new.rows (c.loop-k.invariant gateway).0
+    (c.loop-k.invariant gateway).1 c.write_bus-at.ensures.end (c.write_bus-at.ensures.rows gateway)
 
 pub returns : goal.returns
 returns g c =

@@ -6,15 +6,15 @@ use Rattle.planner.proofs.MarginCounts.{rows_for_all, margins_count, all-few}
 use Rattle.planner.proofs.Turns.{turn}
 use Rattle.planner.proofs.margins.margin_count.Goals as goal
 
-counted : (c : goal.After-row-count-count) →
-    c.loop-message.count + c.row-count-count.result + rows_for_all (drop (c.loop-message.message-index + 1) c.args.messages.now) ≡ rows_for_all c.args.messages.now
+counted : (c : goal.After-row_count-count) →
+    c.loop-message.count + c.row_count-count.result + rows_for_all (drop (c.loop-message.message-index + 1) c.args.messages.now) ≡ rows_for_all c.args.messages.now
 counted c =
     let more = turn rows_for_all c.args.messages.now c.loop-message.message-index c.message-item.result c.loop-message-test.true c.message-item.is in
-    let own : c.row-count-count.result ≡ rows_for c.message-item.result = c.row-count-count.ensures in
+    let own : c.row_count-count.result ≡ rows_for c.message-item.result = c.row_count-count.ensures in
     omega (arith, more, own, c.loop-message.invariant)
 
-pub overflow-add-count : goal.overflow-add-count
-overflow-add-count c = omega (arith, counted c, all-few c.args.messages.now, c.requires)
+pub overflow_add-count : goal.overflow_add-count
+overflow_add-count c = omega (arith, counted c, all-few c.args.messages.now, c.requires)
 
 pub loop-message-preserved : goal.loop-message-preserved
 loop-message-preserved c = counted c

@@ -11,13 +11,13 @@ none_below = every (λ (m : Margin). not (below_zero m))
 turn : (xs : List Margin) (i : ℕ) (d : Margin) (t all : Bool) → i < length xs → t ≡ below_zero (get_or xs i d) → none_below (drop i xs) ≡ all → (not t && none_below (drop (i + 1) xs)) ≡ all
 turn xs i d t all within e inv = ap (λ u. not u && none_below (drop (i + 1) xs)) e ∙ sym (at_drop_more none_below xs i d within) ∙ inv
 
-pub returns-then-is-below : goal.returns-then-is-below
-returns-then-is-below c =
-    turn c.args.margins.now c.loop-margin.margin-index _ true _ c.loop-margin-test.true c.if-is-below.ensures c.loop-margin.invariant
+pub returns-then-is_below : goal.returns-then-is_below
+returns-then-is_below c =
+    turn c.args.margins.now c.loop-margin.margin-index _ true _ c.loop-margin-test.true c.if-is_below.ensures c.loop-margin.invariant
 
 pub loop-margin-preserved : goal.loop-margin-preserved
 loop-margin-preserved c =
-    turn c.args.margins.now c.loop-margin.margin-index _ false _ c.loop-margin-test.true c.if-is-below.ensures c.loop-margin.invariant
+    turn c.args.margins.now c.loop-margin.margin-index _ false _ c.loop-margin-test.true c.if-is_below.ensures c.loop-margin.invariant
 
 pub returns : goal.returns
 returns c = sym (at_drop_all none_below c.args.margins.now c.loop-margin.margin-index c.loop-margin-test.false) ∙ c.loop-margin.invariant

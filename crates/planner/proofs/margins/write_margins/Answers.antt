@@ -15,11 +15,11 @@ loop-message-init g c =
     rows-begin (board_of (map g.R.BusRule.answer c.args.rules.now) c.args.gateway c.args.messages.now) (orders_in (length c.args.rules.now) c.args.rows.now)
     c.args.margins.now
 
-pub offset-bounds-margins-count : goal.offset-bounds-margins-count
-offset-bounds-margins-count g c = omega (arith, c.loop-message.invariant.1)
+pub offset_bounds-margins-count : goal.offset_bounds-margins-count
+offset_bounds-margins-count g c = omega (arith, c.loop-message.invariant.1)
 
-pub write-message-count-requires : goal.write-message-count-requires
-write-message-count-requires g c =
+pub write_message-count-requires : goal.write_message-count-requires
+write_message-count-requires g c =
     let b = board_of (map g.R.BusRule.answer c.args.rules.now) c.args.gateway c.args.messages.now in
     let os = orders_in (length c.args.rules.now) c.args.rows.now in
     record {
@@ -32,14 +32,14 @@ write-message-count-requires g c =
           c.message-item.result c.loop-message-test.true c.message-item.is c.loop-message.auto.margins c.requires.room;
     }
 
-pub overflow-add-count : goal.overflow-add-count
-overflow-add-count g c =
+pub overflow_add-count : goal.overflow_add-count
+overflow_add-count g c =
     let b = board_of (map g.R.BusRule.answer c.args.rules.now) c.args.gateway c.args.messages.now in
     let os = orders_in (length c.args.rules.now) c.args.rows.now in
     omega (
       arith,
       message_few b os c.args.margins.now c.loop-message.margins c.loop-message.message-index c.loop-message.count c.loop-message.invariant
-          c.message-item.result c.loop-message-test.true c.message-item.is c.requires.rises c.write-message-count.result c.write-message-count.ensures.count,
+          c.message-item.result c.loop-message-test.true c.message-item.is c.requires.rises c.write_message-count.result c.write_message-count.ensures.count,
     )
 
 pub loop-message-preserved : goal.loop-message-preserved
@@ -47,7 +47,7 @@ loop-message-preserved g c =
     let b = board_of (map g.R.BusRule.answer c.args.rules.now) c.args.gateway c.args.messages.now in
     let os = orders_in (length c.args.rules.now) c.args.rows.now in
     message_written b os c.args.margins.now c.loop-message.margins c.loop-message.message-index c.loop-message.count c.loop-message.invariant
-    c.message-item.result c.loop-message-test.true c.message-item.is c.requires.rises c.write-message-count.new.margins c.write-message-count.result c.write-message-count.ensures
+    c.message-item.result c.loop-message-test.true c.message-item.is c.requires.rises c.write_message-count.new.margins c.write_message-count.result c.write_message-count.ensures
 
 keeps : (g : given.Over) (s : g.row.R.Denot) → Keeps (g.R.BusRule.answer s)
 keeps g s = record { bounded = g.met.R.BusRule.bounded s; absent = g.met.R.BusRule.absent s; shorter = g.met.R.BusRule.shorter s }
@@ -58,7 +58,7 @@ returns g c =
     let os = orders_in (length c.args.rules.now) c.args.rows.now in
     record {
       met =
-          c.none-below.ensures
+          c.none_below.ensures
           ∙ ap (every (λ (r : Margin). not (below_zero r)))
           (rows-front b os c.args.margins.now c.loop-message.margins c.loop-message.message-index c.loop-message.count c.loop-message.invariant c.loop-message-test.false)
           ∙ met-where_none_below b (keeps-each g.R.BusRule.answer (keeps g) c.args.rules.now) c.requires.rises os;

@@ -14,5 +14,5 @@ pub returns : goal.returns
 returns g c =
     let local : is_local c.args.message ≡ true = eq-eqb c.args.message.destinations 0 c.if-message-ne0.false in
     let few : rows_for c.args.message ≡ 1 = cond-true (is_local c.args.message) _ _ local in
-    one_written c.local-margin.result _ c.args.margins.now (omega (arith, few, c.requires.room))
-    (cond-true (is_local c.args.message) _ _ local ∙ ap (λ v. v ∷ []) (sym (c.local-margin.ensures c.args.gateway)))
+    one_written c.local_margin.result _ c.args.margins.now (omega (arith, few, c.requires.room))
+    (cond-true (is_local c.args.message) _ _ local ∙ ap (λ v. v ∷ []) (sym (c.local_margin.ensures c.args.gateway)))

@@ -8,15 +8,15 @@ use Rattle.boards.specs.Nets.{net_legs}
 use Rattle.planner.proofs.MessageLegs.{every-leg_turn}
 use Rattle.planner.proofs.naming.all_seen.Goals as goal
 
-pub returns-then-is-missing : goal.returns-then-is-missing
-returns-then-is-missing c =
+pub returns-then-is_missing : goal.returns-then-is_missing
+returns-then-is_missing c =
     every-leg_turn c.args.messages.now c.loop-message.message-index c.message-item.result c.args.bus c.loop-message-test.true c.message-item.is true _
-    (λ x. member c.args.seen.bits x.message) c.if-is-missing.ensures c.loop-message.invariant
+    (λ x. member c.args.seen.bits x.message) c.if-is_missing.ensures c.loop-message.invariant
 
 pub loop-message-preserved : goal.loop-message-preserved
 loop-message-preserved c =
     every-leg_turn c.args.messages.now c.loop-message.message-index c.message-item.result c.args.bus c.loop-message-test.true c.message-item.is false _
-    (λ x. member c.args.seen.bits x.message) c.if-is-missing.ensures c.loop-message.invariant
+    (λ x. member c.args.seen.bits x.message) c.if-is_missing.ensures c.loop-message.invariant
 
 pub returns : goal.returns
 returns c =

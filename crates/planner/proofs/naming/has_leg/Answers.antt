@@ -6,15 +6,15 @@ use Rattle.boards.specs.Nets.{leg_at, net_legs}
 use Rattle.planner.proofs.MessageLegs.{has-leg_turn}
 use Rattle.planner.proofs.naming.has_leg.Goals as goal
 
-pub returns-then-is-meant : goal.returns-then-is-meant
-returns-then-is-meant c =
+pub returns-then-is_meant : goal.returns-then-is_meant
+returns-then-is_meant c =
     has-leg_turn c.args.messages.now c.loop-message.message-index c.message-item.result c.args.bus c.loop-message-test.true c.message-item.is true _
-    c.args.number c.if-is-meant.ensures c.loop-message.invariant
+    c.args.number c.if-is_meant.ensures c.loop-message.invariant
 
 pub loop-message-preserved : goal.loop-message-preserved
 loop-message-preserved c =
     has-leg_turn c.args.messages.now c.loop-message.message-index c.message-item.result c.args.bus c.loop-message-test.true c.message-item.is false _
-    c.args.number c.if-is-meant.ensures c.loop-message.invariant
+    c.args.number c.if-is_meant.ensures c.loop-message.invariant
 
 pub returns : goal.returns
 returns c =

@@ -7,7 +7,7 @@ use Rattle.planner.specs.declared.rows.Spot.{Spot}
 use Rattle.planner.proofs.OrderSteps.{down_elsewhere, order-fails, order-goes_on, order-begins}
 use Rattle.planner.proofs.Seen.{unseen, unseen-none}
 use Rattle.planner.proofs.naming.is_order.Goals as goal
-use Rattle.planner.proofs.naming.is_order.Goals.{then-row-bus+else-not-is-new, else-row-bus}
+use Rattle.planner.proofs.naming.is_order.Goals.{then-row-bus+else-not-is_new, else-row-bus}
 
 abbrev none : Spot
 none = record { bus = 0; message = 0 }
@@ -16,8 +16,8 @@ pub loop-row-init : goal.loop-row-init
 loop-row-init c =
     order-begins c.args.rows.now c.args.bus c.empty-seen.result.bits (net_legs c.args.messages.now c.args.bus) c.empty-seen.ensures
 
-pub returns-then-not-is-new : goal.returns-then-not-is-new
-returns-then-not-is-new c =
+pub returns-then-not-is_new : goal.returns-then-not-is_new
+returns-then-not-is_new c =
     let ms = c.args.messages.now in
     let rows = c.args.rows.now in
     let bus = c.args.bus in
@@ -25,7 +25,7 @@ returns-then-not-is-new c =
     let bits = c.loop-row.seen.bits in
     sym
     (at_drop_more (λ (l : List Spot). is_order (down_in l bus) (unseen bits (net_legs ms bus))) rows i none c.loop-row-test.true
-    ∙ order-fails ms bus bits (get_or rows i none) (drop (i + 1) rows) c.if-row-bus.true c.if-not-is-new.ensures)
+    ∙ order-fails ms bus bits (get_or rows i none) (drop (i + 1) rows) c.if-row-bus.true c.if-not-is_new.ensures)
     ∙ c.loop-row.invariant
 
 pub loop-row-preserved : goal.loop-row-preserved
@@ -39,8 +39,8 @@ loop-row-preserved c =
     let step = at_drop_more (λ (l : List Spot). is_order (down_in l bus) (unseen bits (net_legs ms bus))) rows i none c.loop-row-test.true in
     let go : is_order (down_in (get_or rows i none ∷ drop (i + 1) rows) bus) (unseen bits l) ≡ is_order (down_in (drop (i + 1) rows) bus) (unseen c.if-row-bus.seen.bits l) =
     elim c.if-row-bus.branch [
-      | then-row-bus+else-not-is-new w ↦
-          order-goes_on ms bus bits (get_or rows i none) (drop (i + 1) rows) w.if-row-bus.true w.with-seen.result.bits w.if-not-is-new.ensures w.with-seen.ensures
+      | then-row-bus+else-not-is_new w ↦
+          order-goes_on ms bus bits (get_or rows i none) (drop (i + 1) rows) w.if-row-bus.true w.with-seen.result.bits w.if-not-is_new.ensures w.with-seen.ensures
           ∙ sym (ap (λ s. is_order (down_in (drop (i + 1) rows) bus) (unseen s.bits l)) w.seen-is)
       | else-row-bus w ↦
           ap (λ o. is_order o (unseen bits l)) (down_elsewhere (get_or rows i none) (drop (i + 1) rows) bus w.if-row-bus.false)
@@ -53,7 +53,7 @@ pub returns : goal.returns
 returns c =
     let bits = c.loop-row.seen.bits in
     let l = net_legs c.args.messages.now c.args.bus in
-    c.all-seen.ensures
+    c.all_seen.ensures
     ∙ sym (unseen-none bits l)
     ∙ sym (at_drop_all (λ (rs : List Spot). is_order (down_in rs c.args.bus) (unseen bits l)) c.args.rows.now c.loop-row.row-index c.loop-row-test.false)
     ∙ c.loop-row.invariant

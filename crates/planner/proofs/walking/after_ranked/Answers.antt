@@ -6,20 +6,20 @@ use Rattle.planner.specs.Storage.{ranked_of, open_legs}
 use Rattle.planner.proofs.Listed.{message_there, message_listed, message_open, none-after_ready, next-after_unready}
 use Rattle.planner.proofs.walking.after_ranked.Goals as goal
 
-pub returns-in-default : goal.returns-in-default
-returns-in-default c count =
+pub returns-in_default : goal.returns-in_default
+returns-in_default c count =
     absurd (message_there c.args.messages.now c.requires.rises (unranked (ranked_of c.args.ranked.now)) c.args.bus c.args.number
-    c.requires.open c.find.result c.find.ensures c.in-default.is)
+    c.requires.open c.find.result c.find.ensures c.in_default.is)
 
-pub returns-then-is-ready : goal.returns-then-is-ready
-returns-then-is-ready c count =
+pub returns-then-is_ready : goal.returns-then-is_ready
+returns-then-is_ready c count =
     let ms = c.args.messages.now in
     let rs = c.args.ranked.now in
     none-after_ready ms c.args.number c.find.result c.find.ensures c.in-Some.message c.in-Some.is count c.args.bus
-    (ranked_of rs) (open_legs ms rs c.args.bus) c.requires.rises c.if-is-ready.ensures
+    (ranked_of rs) (open_legs ms rs c.args.bus) c.requires.rises c.if-is_ready.ensures
 
-pub next-candidate-requires : goal.next-candidate-requires
-next-candidate-requires c =
+pub next_candidate-requires : goal.next_candidate-requires
+next_candidate-requires c =
     let ms = c.args.messages.now in
     let open-legs = open_legs ms c.args.ranked.now c.args.bus in
     record {
@@ -35,5 +35,5 @@ returns c count =
     let ms = c.args.messages.now in
     let rs = c.args.ranked.now in
     next-after_unready ms c.args.number c.find.result c.find.ensures c.in-Some.message c.in-Some.is count c.args.bus
-    (ranked_of rs) (open_legs ms rs c.args.bus) c.requires.rises c.if-is-ready.ensures
-    (option_map (leg_at c.args.bus) c.next-candidate.result) (c.next-candidate.ensures [] 0)
+    (ranked_of rs) (open_legs ms rs c.args.bus) c.requires.rises c.if-is_ready.ensures
+    (option_map (leg_at c.args.bus) c.next_candidate.result) (c.next_candidate.ensures [] 0)

@@ -6,8 +6,8 @@ use Rattle.planner.specs.Storage.{ranked_of, open_legs}
 use Rattle.planner.proofs.Listed.{message_there, message_listed, message_open, message_next}
 use Rattle.planner.proofs.walking.after_tested.Goals as goal
 
-pub next-candidate-requires : goal.next-candidate-requires
-next-candidate-requires c =
+pub next_candidate-requires : goal.next_candidate-requires
+next_candidate-requires c =
     let ms = c.args.messages.now in
     let open-legs = open_legs ms c.args.ranked.now c.args.bus in
     record {
@@ -23,7 +23,7 @@ returns-in-Some c count =
     let ms = c.args.messages.now in
     let rs = c.args.ranked.now in
     message_next ms c.args.number c.find.result c.find.ensures c.in-Some.message c.in-Some.is count c.args.bus
-    (ranked_of rs) (open_legs ms rs c.args.bus) (option_map (leg_at c.args.bus) c.next-candidate.result) (c.next-candidate.ensures [] 0)
+    (ranked_of rs) (open_legs ms rs c.args.bus) (option_map (leg_at c.args.bus) c.next_candidate.result) (c.next_candidate.ensures [] 0)
 
 pub returns-in-None : goal.returns-in-None
 returns-in-None c count =

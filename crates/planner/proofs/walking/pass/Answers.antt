@@ -7,8 +7,8 @@ use Rattle.planner.proofs.Passed.{spot_open, passed}
 use Rattle.planner.proofs.Stands.{stands-placed}
 use Rattle.planner.proofs.walking.pass.Goals as goal
 
-pub after-tested-requires : goal.after-tested-requires
-after-tested-requires c =
+pub after_tested-requires : goal.after_tested-requires
+after_tested-requires c =
     let so = c.requires.stands in
     record {
       rises = c.requires.rises;
@@ -36,7 +36,7 @@ returns c =
     record {
       stage =
           λ count h.
-          passed count ms rs c.args.spot h c.deref.result.now c.deref.ensures.value None (c.in-default.ensures count)
+          passed count ms rs c.args.spot h c.deref.result.now c.deref.ensures.value None (c.in_default.ensures count)
           (reached (vec_items c.retract.new.ranked) c.retract.result)
           (c.retract.ensures.stage count (stands-placed count ms rs c.args.spot h));
       room = c.retract.ensures.room;

@@ -6,8 +6,8 @@ use Rattle.planner.specs.Stages.{layout}
 use Rattle.planner.proofs.TakenBack.{taken-placed, taken-open, taken-to}
 use Rattle.planner.proofs.walking.retract.Goals as goal
 
-pub after-ranked-requires : goal.after-ranked-requires
-after-ranked-requires c =
+pub after_ranked-requires : goal.after_ranked-requires
+after_ranked-requires c =
     let some = c.loop-leg.invariant.0 in
     record {
       rises = c.requires.rises;
@@ -16,8 +16,8 @@ after-ranked-requires c =
           c.in-Some.ensures.items some.0 some.1 c.deref.result.now c.deref.ensures.value;
     }
 
-pub returns-in-Some-after-ranked : goal.returns-in-Some-after-ranked
-returns-in-Some-after-ranked c =
+pub returns-in-Some-after_ranked : goal.returns-in-Some-after_ranked
+returns-in-Some-after_ranked c =
     record {
       stage =
           λ count k.
@@ -25,7 +25,7 @@ returns-in-Some-after-ranked c =
           ap (λ (w : Stage). Some w)
           (taken-to c.args.messages.now (vec_items c.loop-leg.ranked) (vec_items c.pop.new.self) c.in-Some.leg
           c.in-Some.ensures.items count so.0 c.deref.result.now c.deref.ensures.value
-          (Some (leg_at c.in-Some.leg.bus c.in-Some-after-ranked.message)) (c.in-Some-after-ranked.ensures count)
+          (Some (leg_at c.in-Some.leg.bus c.in-Some-after_ranked.message)) (c.in-Some-after_ranked.ensures count)
           (retract (layout count c.args.messages.now) (ranked_of (vec_items c.args.ranked.now))) so.1);
       room = c.in-Some.ensures.capacity ∙ c.loop-leg.invariant.2;
     }
@@ -43,7 +43,7 @@ loop-leg-preserved c =
           let so = c.loop-leg.invariant.1 count k in (
             taken-placed ms all rs leg items count so.0,
             taken-to ms all rs leg items count so.0 c.deref.result.now c.deref.ensures.value None
-                (c.in-default-after-ranked.ensures count) (retract (layout count ms) (ranked_of (vec_items c.args.ranked.now))) so.1,
+                (c.in_default-after_ranked.ensures count) (retract (layout count ms) (ranked_of (vec_items c.args.ranked.now))) so.1,
           ),
       c.in-Some.ensures.capacity ∙ c.loop-leg.invariant.2,
     )

@@ -1,5 +1,5 @@
 use Rattle.std.proofs.Common.{map, length, Some, None, vec_items}
-use Rattle.std.proofs.lemmas.List.{length_map}
+use Rattle.std.proofs.lemmas.List.{length-map}
 use Rattle.planner.specs.Stages.{spot_leg, reached}
 use Rattle.planner.proofs.FitOnBoard.{once_tried}
 use Rattle.planner.proofs.walking.step.Goals as goal
@@ -10,7 +10,7 @@ returns-in-Some g c =
     record {
       stage =
           once_tried rules c.args.gateway c.args.messages.now (length c.args.rules.now)
-          (length_map c.args.rules.now (λ r. g.R.BusRule.answer r)) (vec_items c.args.ranked.now) c.deref.result.now
+          (length-map c.args.rules.now (λ r. g.R.BusRule.answer r)) (vec_items c.args.ranked.now) c.deref.result.now
           c.deref.ensures.value (spot_leg c.args.spot) (Some c.in-Some.delay) c.in-Some.ensures
           (reached (vec_items c.rank.new.ranked) c.rank.result) c.rank.ensures.stage;
       room = c.rank.ensures.room;
@@ -22,7 +22,7 @@ returns-in-None g c =
     let count = length c.args.rules.now in
     record {
       stage =
-          once_tried rules c.args.gateway c.args.messages.now count (length_map c.args.rules.now (λ r. g.R.BusRule.answer r))
+          once_tried rules c.args.gateway c.args.messages.now count (length-map c.args.rules.now (λ r. g.R.BusRule.answer r))
           (vec_items c.args.ranked.now) c.deref.result.now c.deref.ensures.value (spot_leg c.args.spot) None
           c.in-None.ensures (reached (vec_items c.pass.new.ranked) c.pass.result)
           (c.pass.ensures.stage count c.requires.stands);

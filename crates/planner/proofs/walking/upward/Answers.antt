@@ -12,7 +12,7 @@ returns-in-Some c =
 pub loop-bus-preserved : goal.loop-bus-preserved
 loop-bus-preserved c =
     up_later c.args.count c.args.messages.now (ranked_of c.args.ranked.now) c.requires.stands c.loop-bus.bus c.loop-bus.invariant
-    c.loop-bus-test.true (c.in-default.ensures [] 0)
+    c.loop-bus-test.true (c.in_default.ensures [] 0)
 
 pub returns : goal.returns
 returns c =
@@ -20,10 +20,10 @@ returns c =
     c.loop-bus-test.false
 
 -- the last bus was full
-pub returns-in-default : goal.returns-in-default
-returns-in-default c =
+pub returns-in_default : goal.returns-in_default
+returns-in_default c =
     let next =
     up_later c.args.count c.args.messages.now (ranked_of c.args.ranked.now) c.requires.stands c.loop-bus.bus c.loop-bus.invariant
-    c.loop-bus-test.true (c.in-default.ensures [] 0) in
+    c.loop-bus-test.true (c.in_default.ensures [] 0) in
     let past : c.args.count < c.loop-bus.bus + 1 = omega arith in
     up_past c.args.count c.args.messages.now (ranked_of c.args.ranked.now) c.requires.stands (c.loop-bus.bus + 1) next past

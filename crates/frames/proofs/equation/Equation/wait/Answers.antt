@@ -15,8 +15,8 @@ pub loop-w-preserved : goal.loop-w-preserved
 loop-w-preserved g c =
     let carrier = c.args.self.now.carrier in
     waits_on (g.C.Carrier.time carrier) (g.C.Carrier.bit carrier) c.args.legs.now c.args.number (member c.args.above.bits)
-    c.loop-w.w c.blocking-blocking.result c.interference.result c.saturating-add-next.result
-    c.loop-w.invariant (omega arith) c.blocking-blocking.ensures c.interference.ensures c.saturating-add-next.ensures
+    c.loop-w.w c.blocking-blocking.result c.interference.result c.saturating_add-next.result
+    c.loop-w.invariant (omega arith) c.blocking-blocking.ensures c.interference.ensures c.saturating_add-next.ensures
 
 pub loop-w-smaller : goal.loop-w-smaller
 loop-w-smaller g c =
@@ -25,16 +25,16 @@ loop-w-smaller g c =
       arith,
       c.loop-w-test.true,
       waits_past (g.C.Carrier.time carrier) (g.C.Carrier.bit carrier) c.args.legs.now c.args.number (member c.args.above.bits)
-          c.loop-w.w c.blocking-blocking.result c.interference.result c.saturating-add-next.result
-          c.loop-w.invariant (omega arith) c.blocking-blocking.ensures c.interference.ensures c.saturating-add-next.ensures c.if-next-w.false,
+          c.loop-w.w c.blocking-blocking.result c.interference.result c.saturating_add-next.result
+          c.loop-w.invariant (omega arith) c.blocking-blocking.ensures c.interference.ensures c.saturating_add-next.ensures c.if-next-w.false,
     )
 
 pub returns-then-next-w : goal.returns-then-next-w
 returns-then-next-w g c =
     let carrier = c.args.self.now.carrier in
     let least = waits_to (g.C.Carrier.time carrier) (g.C.Carrier.bit carrier) c.args.legs.now c.args.number (member c.args.above.bits)
-    c.loop-w.w c.blocking-blocking.result c.interference.result c.saturating-add-next.result
-    c.loop-w.invariant (omega arith) c.blocking-blocking.ensures c.interference.ensures c.saturating-add-next.ensures c.if-next-w.true
+    c.loop-w.w c.blocking-blocking.result c.interference.result c.saturating_add-next.result
+    c.loop-w.invariant (omega arith) c.blocking-blocking.ensures c.interference.ensures c.saturating_add-next.ensures c.if-next-w.true
     in record {
       value =
           least-is (queued (g.C.Carrier.time carrier) (g.C.Carrier.bit carrier) c.args.legs.now c.args.number (member c.args.above.bits))

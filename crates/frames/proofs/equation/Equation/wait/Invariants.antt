@@ -1,4 +1,4 @@
-use Rattle.std.proofs.Common.{◌≡◌, ℕ, ◌+◌, ◌-◌, ◌≤◌}
+use Rattle.std.proofs.Common.{◌+◌, ◌-◌}
 use Rattle.bus.specs.Numbered.{member}
 use Rattle.frames.specs.Equation.{queued}
 use Rattle.frames.specs.Rising.{Climbs}

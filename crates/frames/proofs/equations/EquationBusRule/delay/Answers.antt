@@ -5,12 +5,12 @@ use Rattle.frames.specs.Equation.{ends, equation}
 use Rattle.frames.specs.EquationLaws.{exact-of, solved-is}
 use Rattle.frames.proofs.equations.EquationBusRule.delay.Goals as goal
 
-pub returns-in-default-wait : goal.returns-in-default-wait
-returns-in-default-wait g c =
+pub returns-in_default-wait : goal.returns-in_default-wait
+returns-in_default-wait g c =
     let carrier = c.args.self.now.carrier in
     let value : None ≡ equation (g.C.Carrier.time carrier) (g.C.Carrier.bit carrier) c.args.legs.now c.args.number (member c.args.above.bits) =
     solved-is (g.C.Carrier.time carrier) (g.C.Carrier.bit carrier) c.args.legs.now c.args.number (member c.args.above.bits) c.in-Some.leg
-    None (sym c.in-Some.ensures) c.in-default-wait.ensures.value
+    None (sym c.in-Some.ensures) c.in_default-wait.ensures.value
     in record {
       value = value;
       least = exact-of (g.C.Carrier.time carrier) (g.C.Carrier.bit carrier) c.args.legs.now c.args.number (member c.args.above.bits) None value;

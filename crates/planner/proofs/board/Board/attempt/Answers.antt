@@ -19,7 +19,7 @@ returns g c =
     let sound : Sound b =
     board-sound g.R.BusRule.answer
     (λ s. record { bounded = g.met.R.BusRule.bounded s; absent = g.met.R.BusRule.absent s; shorter = g.met.R.BusRule.shorter s })
-    board.rules.now board.gateway ms board.few board.rises board.on_buses_lem
+    board.rules.now board.gateway ms board.few board.rises board.on_buses
     in
     let none = c.in-Ok.ensures.0 in
     let given = c.in-Ok.ensures.1 in
@@ -33,8 +33,8 @@ returns g c =
     in
     record {
       answer =
-          attempt_gives rules board.gateway ms c.args.count c.run-made.result c.progress-of.result (stage_of (net_of b) before board.stage)
+          attempt_gives rules board.gateway ms c.args.count c.run-made.result c.progress_of.result (stage_of (net_of b) before board.stage)
           (stage_of (net_of b) after c.run-made.new.stage) sound none stage made
-          (c.progress-of.ensures ∙ told_by b sound (tried-some ms c.args.count none) after c.run-made.new.stage);
+          (c.progress_of.ensures ∙ told_by b sound (tried-some ms c.args.count none) after c.run-made.new.stage);
       kept = tt;
     }

@@ -14,67 +14,67 @@ use Rattle.planner.proofs.FreshBoards.{length_map}
 use Rattle.planner.proofs.Rising.{rising-few}
 use Rattle.planner.proofs.board.Board.check.Goals as goal
 
-pub returns-then-is-empty : goal.returns-then-is-empty
-returns-then-is-empty g c =
+pub returns-then-is_empty : goal.returns-then-is_empty
+returns-then-is_empty g c =
     let board = c.args.self.now in
     let f = g.R.BusRule.answer in
     record {
       answer =
           check_empty (board_in f board) (standing f board).left c.args.orders.now (length c.args.margins.now)
-          (none-is_empty (vec_items board.messages) (omega (arith, eqb-true (vec_len board.messages) 0 (sym c.if-is-empty.ensures), board.messages.ok.0)));
+          (none-is_empty (vec_items board.messages) (omega (arith, eqb-true (vec_len board.messages) 0 (sym c.if-is_empty.ensures), board.messages.ok.0)));
       rest = refl;
     }
 
-pub margin-count-requires : goal.margin-count-requires
-margin-count-requires g c =
+pub margin_count-requires : goal.margin_count-requires
+margin_count-requires g c =
     let board = c.args.self.now in
     subst (λ (ms : List Message). length ms ≤ 64) (sym c.deref.ensures.value) (rising-few (vec_items board.messages) board.rises)
 
-pub returns-then-margins-margin-count : goal.returns-then-margins-margin-count
-returns-then-margins-margin-count g c =
+pub returns-then-margins-margin_count : goal.returns-then-margins-margin_count
+returns-then-margins-margin_count g c =
     let board = c.args.self.now in
     let f = g.R.BusRule.answer in
     let some : is_none (vec_items board.messages) ≡ false =
-    some-are_there (vec_items board.messages) (λ e. eqb-false (vec_len board.messages) 0 (sym c.if-is-empty.ensures) (omega (arith, e, board.messages.ok.0)))
+    some-are_there (vec_items board.messages) (λ e. eqb-false (vec_len board.messages) 0 (sym c.if-is_empty.ensures) (omega (arith, e, board.messages.ok.0)))
     in
-    let count : c.margin-count.result ≡ margin_count (board_in f board) =
-    c.margin-count.ensures (map f board.rules.now) board.gateway
+    let count : c.margin_count.result ≡ margin_count (board_in f board) =
+    c.margin_count.ensures (map f board.rules.now) board.gateway
     ∙ ap (λ (ms : List Message). margin_count (board_of (map f board.rules.now) board.gateway ms)) c.deref.ensures.value
     in record {
-      answer = check_few (board_in f board) (standing f board).left c.args.orders.now (length c.args.margins.now) some (omega (arith, c.if-margins-margin-count.true, count));
+      answer = check_few (board_in f board) (standing f board).left c.args.orders.now (length c.args.margins.now) some (omega (arith, c.if-margins-margin_count.true, count));
       rest = refl;
     }
 
-pub returns-then-not-names-legs : goal.returns-then-not-names-legs
-returns-then-not-names-legs g c =
+pub returns-then-not-names_legs : goal.returns-then-not-names_legs
+returns-then-not-names_legs g c =
     let board = c.args.self.now in
     let f = g.R.BusRule.answer in
     let ms = vec_items board.messages in
     let some : is_none ms ≡ false =
-    some-are_there ms (λ e. eqb-false (vec_len board.messages) 0 (sym c.if-is-empty.ensures) (omega (arith, e, board.messages.ok.0)))
+    some-are_there ms (λ e. eqb-false (vec_len board.messages) 0 (sym c.if-is_empty.ensures) (omega (arith, e, board.messages.ok.0)))
     in
-    let count : c.margin-count.result ≡ margin_count (board_in f board) =
-    c.margin-count.ensures (map f board.rules.now) board.gateway
+    let count : c.margin_count.result ≡ margin_count (board_in f board) =
+    c.margin_count.ensures (map f board.rules.now) board.gateway
     ∙ ap (λ (ms : List Message). margin_count (board_of (map f board.rules.now) board.gateway ms)) c.deref.ensures.value
     in
     let wrong : named (length (map f board.rules.now)) ms c.args.orders.now ≡ false =
     ap (λ n. named n ms c.args.orders.now) (length_map f board.rules.now)
-    ∙ sym (c.if-not-names-legs.ensures ∙ ap (λ (m : List Message). named (length board.rules.now) m c.args.orders.now) c.deref-2.ensures.value)
+    ∙ sym (c.if-not-names_legs.ensures ∙ ap (λ (m : List Message). named (length board.rules.now) m c.args.orders.now) c.deref-2.ensures.value)
     in record {
-      answer = check_wrong (board_in f board) (standing f board).left c.args.orders.now (length c.args.margins.now) some (omega (arith, c.if-margins-margin-count.false, count)) wrong;
+      answer = check_wrong (board_in f board) (standing f board).left c.args.orders.now (length c.args.margins.now) some (omega (arith, c.if-margins-margin_count.false, count)) wrong;
       rest = refl;
     }
 
-pub write-margins-requires : goal.write-margins-requires
-write-margins-requires g c =
+pub write_margins-requires : goal.write_margins-requires
+write_margins-requires g c =
     let board = c.args.self.now in
     let f = g.R.BusRule.answer in
     let ms = vec_items board.messages in
     let right : named (length board.rules.now) ms c.args.orders.now ≡ true =
-    sym (c.if-not-names-legs.ensures ∙ ap (λ (m : List Message). named (length board.rules.now) m c.args.orders.now) c.deref-2.ensures.value)
+    sym (c.if-not-names_legs.ensures ∙ ap (λ (m : List Message). named (length board.rules.now) m c.args.orders.now) c.deref-2.ensures.value)
     in
-    let count : c.margin-count.result ≡ margin_count (board_in f board) =
-    c.margin-count.ensures (map f board.rules.now) board.gateway
+    let count : c.margin_count.result ≡ margin_count (board_in f board) =
+    c.margin_count.ensures (map f board.rules.now) board.gateway
     ∙ ap (λ (m : List Message). margin_count (board_of (map f board.rules.now) board.gateway m)) c.deref.ensures.value
     in record {
       gateway = board.gateway_range;
@@ -82,7 +82,7 @@ write-margins-requires g c =
       named = subst (λ (m : List Message). named (length board.rules.now) m c.args.orders.now ≡ true) (sym c.deref-3.ensures.value) right;
       room =
           subst (λ (m : List Message). margin_count (board_of (map f board.rules.now) board.gateway m) ≤ length c.args.margins.now) (sym c.deref-3.ensures.value)
-          (omega (arith, c.if-margins-margin-count.false, count));
+          (omega (arith, c.if-margins-margin_count.false, count));
     }
 
 pub returns : goal.returns
@@ -93,28 +93,28 @@ returns g c =
     let rules = board.rules.now in
     let rows = c.args.orders.now in
     let some : is_none ms ≡ false =
-    some-are_there ms (λ e. eqb-false (vec_len board.messages) 0 (sym c.if-is-empty.ensures) (omega (arith, e, board.messages.ok.0)))
+    some-are_there ms (λ e. eqb-false (vec_len board.messages) 0 (sym c.if-is_empty.ensures) (omega (arith, e, board.messages.ok.0)))
     in
-    let count : c.margin-count.result ≡ margin_count (board_in f board) =
-    c.margin-count.ensures (map f rules) board.gateway
+    let count : c.margin_count.result ≡ margin_count (board_in f board) =
+    c.margin_count.ensures (map f rules) board.gateway
     ∙ ap (λ (m : List Message). margin_count (board_of (map f rules) board.gateway m)) c.deref.ensures.value
     in
     let right : named (length (map f rules)) ms rows ≡ true =
     ap (λ n. named n ms rows) (length_map f rules)
-    ∙ sym (c.if-not-names-legs.ensures ∙ ap (λ (m : List Message). named (length rules) m rows) c.deref-2.ensures.value)
+    ∙ sym (c.if-not-names_legs.ensures ∙ ap (λ (m : List Message). named (length rules) m rows) c.deref-2.ensures.value)
     in
-    let met : c.write-margins.result.0 ≡ all_met (net_of (board_in f board)) (orders_in (length (map f rules)) rows) =
-    subst (λ (m : List Message). c.write-margins.result.0 ≡ all_met (net_of (board_of (map f rules) board.gateway m)) (orders_in (length rules) rows)) c.deref-3.ensures.value c.write-margins.ensures.met
+    let met : c.write_margins.result.0 ≡ all_met (net_of (board_in f board)) (orders_in (length (map f rules)) rows) =
+    subst (λ (m : List Message). c.write_margins.result.0 ≡ all_met (net_of (board_of (map f rules) board.gateway m)) (orders_in (length rules) rows)) c.deref-3.ensures.value c.write_margins.ensures.met
     ∙ ap (λ n. all_met (net_of (board_in f board)) (orders_in n rows)) (sym (length_map f rules))
     in
-    let wrote : Written (margin_rows (board_in f board) (orders_in (length (map f rules)) rows)) c.args.margins.now c.write-margins.new.margins c.write-margins.result.1 =
-    subst (λ n. Written (margin_rows (board_in f board) (orders_in n rows)) c.args.margins.now c.write-margins.new.margins c.write-margins.result.1) (sym (length_map f rules))
-    (subst (λ (m : List Message). Written (margin_rows (board_of (map f rules) board.gateway m) (orders_in (length rules) rows)) c.args.margins.now c.write-margins.new.margins c.write-margins.result.1) c.deref-3.ensures.value c.write-margins.ensures.rows)
+    let wrote : Written (margin_rows (board_in f board) (orders_in (length (map f rules)) rows)) c.args.margins.now c.write_margins.new.margins c.write_margins.result.1 =
+    subst (λ n. Written (margin_rows (board_in f board) (orders_in n rows)) c.args.margins.now c.write_margins.new.margins c.write_margins.result.1) (sym (length_map f rules))
+    (subst (λ (m : List Message). Written (margin_rows (board_of (map f rules) board.gateway m) (orders_in (length rules) rows)) c.args.margins.now c.write_margins.new.margins c.write_margins.result.1) c.deref-3.ensures.value c.write_margins.ensures.rows)
     in record {
       answer =
-          check_gives (board_in f board) (standing f board).left rows (length c.args.margins.now) some (omega (arith, c.if-margins-margin-count.false, count)) right
-          c.write-margins.result.0 c.write-margins.result.1 c.args.margins.now c.write-margins.new.margins met wrote;
+          check_gives (board_in f board) (standing f board).left rows (length c.args.margins.now) some (omega (arith, c.if-margins-margin_count.false, count)) right
+          c.write_margins.result.0 c.write_margins.result.1 c.args.margins.now c.write_margins.new.margins met wrote;
       rest =
-          ap (drop c.write-margins.result.1) wrote.rows
-          ∙ drop_at (margin_rows (board_in f board) (orders_in (length (map f rules)) rows)) (drop c.write-margins.result.1 c.args.margins.now) c.write-margins.result.1 (sym wrote.count);
+          ap (drop c.write_margins.result.1) wrote.rows
+          ∙ drop_at (margin_rows (board_in f board) (orders_in (length (map f rules)) rows)) (drop c.write_margins.result.1 c.args.margins.now) c.write_margins.result.1 (sym wrote.count);
     }

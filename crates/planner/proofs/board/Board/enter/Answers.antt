@@ -7,32 +7,23 @@ use Rattle.planner.proofs.Entered.{every-entered}
 use Rattle.planner.proofs.FreshBoards.{start-stands, entered-gives, enter_refused}
 use Rattle.planner.proofs.board.Board.enter.Goals as goal
 
-pub invariant-of-self : goal.invariant-of-self
-invariant-of-self g c =
+pub invariant_of-self : goal.invariant_of-self
+invariant_of-self g c =
     let board = c.args.self.now in
     let n = length board.rules.now in
     let on : every (on_board n) (vec_items c.put.new.messages) ≡ true =
     ap (every (on_board n)) c.put.ensures.items
-    ∙ every-entered c.in-Ok.message (on_board n) (vec_items board.messages) c.in-Ok.ensures.2 board.on_buses_lem
-    in (
-      board.few,
-      (
-        board.gateway_range,
-        (
-          c.put.ensures.room,
-          (
-            c.put.ensures.rises,
-            (
-              on,
-              (
-                omega (arith, c.clear.ensures.capacity, board.ranks),
-                (start-stands n (vec_items c.put.new.messages) (vec_items c.clear.new.self), tt),
-              ),
-            ),
-          ),
-        ),
-      ),
-    )
+    ∙ every-entered c.in-Ok.message (on_board n) (vec_items board.messages) c.in-Ok.ensures.2 board.on_buses
+    in
+    record {
+      few = board.few;
+      gateway_range = board.gateway_range;
+      roomy = c.put.ensures.room;
+      rises = c.put.ensures.rises;
+      on_buses = on;
+      ranks = omega (arith, c.clear.ensures.capacity, board.ranks);
+      walks = start-stands n (vec_items c.put.new.messages) (vec_items c.clear.new.self);
+    }
 
 pub returns : goal.returns
 returns g c =

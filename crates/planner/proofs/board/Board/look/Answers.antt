@@ -16,18 +16,18 @@ use Rattle.planner.proofs.Listings.{LookTests, look_tests, look_gives, look_refu
 use Rattle.planner.proofs.Rising.{rising-few}
 use Rattle.planner.proofs.board.Board.look.Goals as goal
 
-pub row-of-row-requires : goal.row-of-row-requires
-row-of-row-requires g c =
+pub row_of-row-requires : goal.row_of-row-requires
+row_of-row-requires g c =
     let board = c.args.self.now in
     let f = g.R.BusRule.answer in
     let keeps : (s : _) → Keeps (f s) = λ s. record { bounded = g.met.R.BusRule.bounded s; absent = g.met.R.BusRule.absent s; shorter = g.met.R.BusRule.shorter s } in
     let ms = vec_items board.messages in
-    let told : c.has-found-found.result ≡ (not (is_none ms) && is_complete board.stage) =
-    c.has-found-found.ensures ∙ ap (λ (m : List Message). not (is_none m) && is_complete board.stage) c.deref.ensures.value
+    let told : c.has_found-found.result ≡ (not (is_none ms) && is_complete board.stage) =
+    c.has_found-found.ensures ∙ ap (λ (m : List Message). not (is_none m) && is_complete board.stage) c.deref.ensures.value
     in
-    let tests : LookTests (length board.rules.now) ms c.has-found-found.result c.args.bus c.args.message =
-    look_tests (length board.rules.now) ms c.has-found-found.result c.args.bus c.args.message
-    (ap (λ (m : List Message). look_fault (length board.rules.now) m c.has-found-found.result c.args.bus c.args.message) (sym c.deref-2.ensures.value) ∙ c.in-Ok.ensures.0)
+    let tests : LookTests (length board.rules.now) ms c.has_found-found.result c.args.bus c.args.message =
+    look_tests (length board.rules.now) ms c.has_found-found.result c.args.bus c.args.message
+    (ap (λ (m : List Message). look_fault (length board.rules.now) m c.has_found-found.result c.args.bus c.args.message) (sym c.deref-2.ensures.value) ∙ c.in-Ok.ensures.0)
     in
     let yes : (not (is_none ms) && is_complete board.stage) ≡ true = sym told ∙ tests.is in
     let bus = c.in-Ok.ensures.1 in
@@ -52,24 +52,24 @@ returns-in-Ok g c =
     let f = g.R.BusRule.answer in
     let keeps : (s : _) → Keeps (f s) = λ s. record { bounded = g.met.R.BusRule.bounded s; absent = g.met.R.BusRule.absent s; shorter = g.met.R.BusRule.shorter s } in
     let ms = vec_items board.messages in
-    let told : c.has-found-found.result ≡ (not (is_none ms) && is_complete board.stage) =
-    c.has-found-found.ensures ∙ ap (λ (m : List Message). not (is_none m) && is_complete board.stage) c.deref.ensures.value
+    let told : c.has_found-found.result ≡ (not (is_none ms) && is_complete board.stage) =
+    c.has_found-found.ensures ∙ ap (λ (m : List Message). not (is_none m) && is_complete board.stage) c.deref.ensures.value
     in
-    let none : look_fault (length board.rules.now) ms c.has-found-found.result c.args.bus c.args.message ≡ None =
-    ap (λ (m : List Message). look_fault (length board.rules.now) m c.has-found-found.result c.args.bus c.args.message) (sym c.deref-2.ensures.value) ∙ c.in-Ok.ensures.0
+    let none : look_fault (length board.rules.now) ms c.has_found-found.result c.args.bus c.args.message ≡ None =
+    ap (λ (m : List Message). look_fault (length board.rules.now) m c.has_found-found.result c.args.bus c.args.message) (sym c.deref-2.ensures.value) ∙ c.in-Ok.ensures.0
     in
-    let tests = look_tests (length board.rules.now) ms c.has-found-found.result c.args.bus c.args.message none in
+    let tests = look_tests (length board.rules.now) ms c.has_found-found.result c.args.bus c.args.message none in
     let yes : (not (is_none ms) && is_complete board.stage) ≡ true = sym told ∙ tests.is in
     let net = net_of (board_in f board) in
     let os = walk.orders_of net (ranked_of (vec_items board.ranked)) in
-    let row : row_at c.args.bus c.args.message (rows_of net os) ≡ Some c.row-of-row.result =
-    subst (λ (b : ℕ). row_at b c.args.message (rows_of net os) ≡ Some c.row-of-row.result) c.in-Ok.ensures.1
-    (subst (λ (n : ℕ). row_at c.in-Ok.spot.bus n (rows_of net os) ≡ Some c.row-of-row.result) c.in-Ok.ensures.2
-    (subst (λ (rs : List Ranked). row_at c.in-Ok.spot.bus c.in-Ok.spot.message (rows_of net (walk.orders_of net (ranked_of rs))) ≡ Some c.row-of-row.result) c.deref-in-Ok-2.ensures.value
-    (subst (λ (m : List Message). row_at c.in-Ok.spot.bus c.in-Ok.spot.message (rows_of (net_of (board_of (map f board.rules.now) board.gateway m)) (walk.orders_of (net_of (board_of (map f board.rules.now) board.gateway m)) (ranked_of c.deref-in-Ok-2.result.now))) ≡ Some c.row-of-row.result) c.deref-in-Ok.ensures.value
-    (c.row-of-row.ensures board.gateway))))
+    let row : row_at c.args.bus c.args.message (rows_of net os) ≡ Some c.row_of-row.result =
+    subst (λ (b : ℕ). row_at b c.args.message (rows_of net os) ≡ Some c.row_of-row.result) c.in-Ok.ensures.1
+    (subst (λ (n : ℕ). row_at c.in-Ok.spot.bus n (rows_of net os) ≡ Some c.row_of-row.result) c.in-Ok.ensures.2
+    (subst (λ (rs : List Ranked). row_at c.in-Ok.spot.bus c.in-Ok.spot.message (rows_of net (walk.orders_of net (ranked_of rs))) ≡ Some c.row_of-row.result) c.deref-in-Ok-2.ensures.value
+    (subst (λ (m : List Message). row_at c.in-Ok.spot.bus c.in-Ok.spot.message (rows_of (net_of (board_of (map f board.rules.now) board.gateway m)) (walk.orders_of (net_of (board_of (map f board.rules.now) board.gateway m)) (ranked_of c.deref-in-Ok-2.result.now))) ≡ Some c.row_of-row.result) c.deref-in-Ok.ensures.value
+    (c.row_of-row.ensures board.gateway))))
     in
-    look_gives (board_in f board) (sound-of f keeps board) (vec_items board.ranked) board.stage os (found_of f keeps board yes) c.args.bus c.args.message c.row-of-row.result
+    look_gives (board_in f board) (sound-of f keeps board) (vec_items board.ranked) board.stage os (found_of f keeps board yes) c.args.bus c.args.message c.row_of-row.result
     (ap (λ n. look_fault n ms true c.args.bus c.args.message) (length_map f board.rules.now) ∙ ap (λ k. look_fault (length board.rules.now) ms k c.args.bus c.args.message) (sym tests.is) ∙ none) row
 
 pub returns-in-Err : goal.returns-in-Err
@@ -78,12 +78,12 @@ returns-in-Err g c =
     let f = g.R.BusRule.answer in
     let keeps : (s : _) → Keeps (f s) = λ s. record { bounded = g.met.R.BusRule.bounded s; absent = g.met.R.BusRule.absent s; shorter = g.met.R.BusRule.shorter s } in
     let ms = vec_items board.messages in
-    let told : c.has-found-found.result ≡ (not (is_none ms) && is_complete board.stage) =
-    c.has-found-found.ensures ∙ ap (λ (m : List Message). not (is_none m) && is_complete board.stage) c.deref.ensures.value
+    let told : c.has_found-found.result ≡ (not (is_none ms) && is_complete board.stage) =
+    c.has_found-found.ensures ∙ ap (λ (m : List Message). not (is_none m) && is_complete board.stage) c.deref.ensures.value
     in
-    let some : look_fault (length board.rules.now) ms c.has-found-found.result c.args.bus c.args.message ≡ Some c.in-Err.refusal =
-    ap (λ (m : List Message). look_fault (length board.rules.now) m c.has-found-found.result c.args.bus c.args.message) (sym c.deref-2.ensures.value) ∙ c.in-Err.ensures
+    let some : look_fault (length board.rules.now) ms c.has_found-found.result c.args.bus c.args.message ≡ Some c.in-Err.refusal =
+    ap (λ (m : List Message). look_fault (length board.rules.now) m c.has_found-found.result c.args.bus c.args.message) (sym c.deref-2.ensures.value) ∙ c.in-Err.ensures
     in
-    look_refused (board_in f board) (sound-of f keeps board) (vec_items board.ranked) board.stage c.has-found-found.result c.args.bus c.args.message c.in-Err.refusal
+    look_refused (board_in f board) (sound-of f keeps board) (vec_items board.ranked) board.stage c.has_found-found.result c.args.bus c.args.message c.in-Err.refusal
     (known-found (board_in f board) (sound-of f keeps board) (vec_items board.ranked) board.stage (placed_of f keeps board) ∙ sym told)
-    (ap (λ n. look_fault n ms c.has-found-found.result c.args.bus c.args.message) (length_map f board.rules.now) ∙ some)
+    (ap (λ n. look_fault n ms c.has_found-found.result c.args.bus c.args.message) (length_map f board.rules.now) ∙ some)

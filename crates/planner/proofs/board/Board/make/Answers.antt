@@ -8,29 +8,20 @@ use Rattle.planner.proofs.FreshBoards.{start-stands, begun, begun_fresh, board-s
 use Rattle.planner.proofs.LogLaw.{every-log_keeps_the_law}
 use Rattle.planner.proofs.board.Board.make.Goals as goal
 
-pub invariant-of-self : goal.invariant-of-self
-invariant-of-self g c =
+pub invariant_of-self : goal.invariant_of-self
+invariant_of-self g c =
     let board = c.args.self.now in
     let n = length c.args.rules.now in
-    let empty = c.clear.ensures.items in (
-      omega arith,
-      (
-        omega arith,
-        (
-          omega (arith, c.clear.ensures.capacity, board.roomy),
-          (
-            ap rising_messages empty,
-            (
-              ap (every (on_board n)) empty,
-              (
-                omega (arith, c.clear-2.ensures.capacity, board.ranks),
-                (start-stands n (vec_items c.clear.new.self) (vec_items c.clear-2.new.self), tt),
-              ),
-            ),
-          ),
-        ),
-      ),
-    )
+    let empty = c.clear.ensures.items in
+    record {
+      few = omega arith;
+      gateway_range = omega arith;
+      roomy = omega (arith, c.clear.ensures.capacity, board.roomy);
+      rises = ap rising_messages empty;
+      on_buses = ap (every (on_board n)) empty;
+      ranks = omega (arith, c.clear-2.ensures.capacity, board.ranks);
+      walks = start-stands n (vec_items c.clear.new.self) (vec_items c.clear-2.new.self);
+    }
 
 pub returns : goal.returns
 returns g c =

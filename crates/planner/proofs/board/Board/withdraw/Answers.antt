@@ -8,32 +8,23 @@ use Rattle.planner.proofs.FreshBoards.{start-stands, withdrawn-gives, withdraw_r
 use Rattle.planner.proofs.Withdrawn.{every-withdrawn}
 use Rattle.planner.proofs.board.Board.withdraw.Goals as goal
 
-pub invariant-of-self : goal.invariant-of-self
-invariant-of-self g c =
+pub invariant_of-self : goal.invariant_of-self
+invariant_of-self g c =
     let board = c.args.self.now in
     let n = length board.rules.now in
     let on : every (on_board n) (vec_items c.take.new.messages) ≡ true =
     ap (every (on_board n)) c.take.ensures.items
-    ∙ every-withdrawn c.in-Ok.number (on_board n) (vec_items board.messages) board.on_buses_lem
-    in (
-      board.few,
-      (
-        board.gateway_range,
-        (
-          c.take.ensures.room,
-          (
-            c.take.ensures.rises,
-            (
-              on,
-              (
-                omega (arith, c.clear.ensures.capacity, board.ranks),
-                (start-stands n (vec_items c.take.new.messages) (vec_items c.clear.new.self), tt),
-              ),
-            ),
-          ),
-        ),
-      ),
-    )
+    ∙ every-withdrawn c.in-Ok.number (on_board n) (vec_items board.messages) board.on_buses
+    in
+    record {
+      few = board.few;
+      gateway_range = board.gateway_range;
+      roomy = c.take.ensures.room;
+      rises = c.take.ensures.rises;
+      on_buses = on;
+      ranks = omega (arith, c.clear.ensures.capacity, board.ranks);
+      walks = start-stands n (vec_items c.take.new.messages) (vec_items c.clear.new.self);
+    }
 
 pub returns : goal.returns
 returns g c =
