@@ -1,6 +1,6 @@
 -- The theorems of the walk, for every board.
 use Rattle.std.proofs.Common.{◌≡◌, Bool, true, false, cond, List, [], ◌∷◌, ◌++◌, map, refl, ap, ◌∙◌}
-use Rattle.std.specs.List.{flat_map, filter, AllByRecursion as All}
+use Rattle.std.specs.List.{flat_map, filter, AllByRecursion}
 use Rattle.std.proofs.lemmas.Bool.{and_parts, eqb-true}
 use Rattle.bus.specs.Numbered.{member}
 use Rattle.bus.specs.Rules.{Meaning}
@@ -51,7 +51,7 @@ pub legs_distinct : LegsDistinct
 legs_distinct b sound = buses-distinct b.messages sound.messages.rise (bus_numbers (bus_count b))
 
 -- ---------------------------------------------------------------- rules that are lent
-pub keeps-each : {S : Type 0} (f : S → Meaning) → ((s : S) → Keeps (f s)) → (xs : List S) → All Keeps (map f xs)
+pub keeps-each : {S : Type 0} (f : S → Meaning) → ((s : S) → Keeps (f s)) → (xs : List S) → AllByRecursion Keeps (map f xs)
 keeps-each f keeps [] = tt
 keeps-each f keeps (x ∷ xs) = (keeps x, keeps-each f keeps xs)
 

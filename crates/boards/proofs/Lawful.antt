@@ -1,6 +1,6 @@
 -- The net of a sound board is lawful.
 use Rattle.std.proofs.Common.{◌≡◌, ℕ, zero, suc, ◌^◌, ◌<◌, ◌≤◌, true, ◌&&◌, ◌||◌, eqb, leb, List, [], ◌∷◌, sym, refl, ◌∙◌, subst, inl, inr, arith}
-use Rattle.std.specs.List.{filter, AllByRecursion as All}
+use Rattle.std.specs.List.{filter, AllByRecursion}
 use Rattle.std.proofs.lemmas.Bool.{and_parts, and_from, or_left, or_right, or_cases, cases_Bool, cases_lt, eqb-true, eqb-false, eq-eqb, leb-true, ltb-true, both_ways}
 use Rattle.bus.specs.Legs.{legs_on}
 use Rattle.bus.specs.Numbered.{member}
@@ -22,7 +22,7 @@ use Rattle.boards.proofs.Sets.{some-member}
 no_rule-shorter : Shorter no_rule
 no_rule-shorter legs n h k d rises part e = let z : ◌≡◌ {A = ℕ} 0 1 = cc in absurd (omega arith)
 
-rule_shorter : (fs : List Meaning) → All Keeps fs → (k : ℕ) → Shorter (rule_at fs k)
+rule_shorter : (fs : List Meaning) → AllByRecursion Keeps fs → (k : ℕ) → Shorter (rule_at fs k)
 rule_shorter [] keeps k = no_rule-shorter
 rule_shorter (f ∷ fs) keeps zero = no_rule-shorter
 rule_shorter (f ∷ fs) keeps (suc zero) = keeps.0.shorter

@@ -1,6 +1,6 @@
 -- A board: the rules of its buses, the gateway's time and the messages; and what is asked of one.
 use Rattle.std.specs.Prelude.{◌≡◌, ℕ, zero, suc, ◌^◌, ◌≤◌, Bool, true, cond, ◌&&◌, List, [], ◌∷◌, length, Some, None, Option, ◌==◌, nat_le, nat_lt}
-use Rattle.std.specs.List.{AllByRecursion as All}
+use Rattle.std.specs.List.{AllByRecursion}
 use Rattle.bus.specs.Rules.{Meaning, Bounded, Absent, Shorter}
 use Rattle.bus.specs.declared.message.Message.{Message}
 use Rattle.search.specs.Lists.{every}
@@ -61,6 +61,6 @@ pub record Belong (n : ℕ) (ms : List Message) : Type 0 where
 
 -- all that is asked of a board
 pub record Sound (b : Board) : Type 0 where
-  pub rules : All Keeps b.rules
+  pub rules : AllByRecursion Keeps b.rules
   pub few : bus_count b ≤ 8
   pub messages : Belong (bus_count b) b.messages

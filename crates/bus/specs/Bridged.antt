@@ -1,10 +1,10 @@
 -- A bridge over a rule with the rule laws keeps them.
-use Rattle.std.specs.Prelude.{◌≡◌, ℕ, ◌+◌, ◌≤◌, Bool, true, false, cond, List, Some, None, Option, nat_le, refl}
-use Rattle.std.proofs.Common.{sym, ap, ◌∙◌, arith}
+use Rattle.std.specs.Prelude.{◌≡◌, ℕ, ◌+◌, ◌≤◌, Bool, true, false, cond, Some, None, Option, nat_le, refl}
+use Rattle.std.proofs.Common.{ap, ◌∙◌, arith}
 use Rattle.std.proofs.lemmas.Bool.{leb-true, le-leb, cond-true}
 use Rattle.bus.specs.Bridges.{lengthened, bridged}
 use Rattle.bus.specs.Legs.{leg_of}
-use Rattle.bus.specs.Rules.{Meaning, Bounded, Absent, Part, Shorter}
+use Rattle.bus.specs.Rules.{Meaning, Bounded, Absent, Shorter}
 use Rattle.bus.specs.declared.leg.Leg.{Leg}
 
 -- a delay that is given comes from a shorter one of the rule inside, and is within the deadline

@@ -1,5 +1,5 @@
 -- Which values make a message, and what is refused else.
-use Rattle.std.specs.Prelude.{◌≡◌, Bool, true, false, cond, ◌&&◌, Some, None, Option}
+use Rattle.std.specs.Prelude.{◌≡◌, Bool, cond, ◌&&◌, Some, None, Option}
 use Rattle.bus.specs.Numbered.{member}
 use Rattle.bus.specs.Range.{inside, numbers, buses, payloads, periods, deadlines, jitters}
 use Rattle.bus.specs.declared.entry.Entry.{Entry}

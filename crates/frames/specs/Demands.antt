@@ -4,7 +4,7 @@ use Rattle.std.proofs.Common.{ap, ⊎_elim, mul-le-mul_right, arith}
 use Rattle.std.proofs.lemmas.Nat.{div-add-mod', le-div}
 use Rattle.std.proofs.lemmas.List.Sums.{sum_by-cons}
 use Rattle.std.proofs.lemmas.Bool.{cases_lt, eq-eqb, eqb-false, and_parts, and_from, not-true, false≢true}
-use Rattle.std.specs.List.{AllByRecursion as All}
+use Rattle.std.specs.List.{AllByRecursion}
 use Rattle.bus.specs.Legs.{leg_of}
 use Rattle.bus.specs.Rules.{Part}
 use Rattle.bus.specs.declared.leg.Leg.{Leg}
@@ -25,11 +25,11 @@ demand_rises : (time : ℕ → ℕ) (tau : ℕ) (leg : Leg) → Rises (λ w. dem
 demand_rises time tau leg v w h =
     mul-le-mul_right (time_of time leg) (ceiling-rises leg.message.period (omega arith) _ _ (omega arith))
 
-sum_mono : {X : Type 0} (f g : X → ℕ) (xs : List X) → All (λ x. f x ≤ g x) xs → sum_by f xs ≤ sum_by g xs
+sum_mono : {X : Type 0} (f g : X → ℕ) (xs : List X) → AllByRecursion (λ x. f x ≤ g x) xs → sum_by f xs ≤ sum_by g xs
 sum_mono f g [] h = omega arith
 sum_mono f g (x ∷ xs) h = omega (arith, sum_by-cons f x xs, sum_by-cons g x xs, sum_mono f g xs h.1, h.0)
 
-all_map : {X : Type 0} (P Q : X → Type 0) → ((x : X) → P x → Q x) → (xs : List X) → All P xs → All Q xs
+all_map : {X : Type 0} (P Q : X → Type 0) → ((x : X) → P x → Q x) → (xs : List X) → AllByRecursion P xs → AllByRecursion Q xs
 all_map P Q f [] h = tt
 all_map P Q f (x ∷ xs) h = (f x h.0, all_map P Q f xs h.1)
 
@@ -44,7 +44,7 @@ found-behind y xs x h = go (y.message.number == x.message.number)
     go true = refl
     go false = h
 
-listed : (xs : List Leg) → All (Found xs) xs
+listed : (xs : List Leg) → AllByRecursion (Found xs) xs
 listed [] = tt
 listed (x ∷ xs) = (
   ap (λ t. is_some (cond t (Some x) (leg_of xs x.message.number))) (eq-eqb x.message.number x.message.number refl),
@@ -69,7 +69,7 @@ cond_rises true m n h = h
 cond_rises false m n h = omega arith
 
 module _ (time : ℕ → ℕ) (tau : ℕ) (legs : List Leg) (n : ℕ) where
-  all_of : (P : Leg → Type 0) → ((x : Leg) → P x) → (xs : List Leg) → All P xs
+  all_of : (P : Leg → Type 0) → ((x : Leg) → P x) → (xs : List Leg) → AllByRecursion P xs
   all_of P f [] = tt
   all_of P f (x ∷ xs) = (f x, all_of P f xs)
 

@@ -1,6 +1,6 @@
 -- The lines of a written sheet: each is read back, has no fault, and is short.
 use Rattle.std.proofs.Common.{◌≡◌, ℕ, suc, ◌+◌, ◌^◌, ◌≤◌, Bool, true, cond, eqb, leb, List, [], ◌∷◌, length, is_some, Some, codes, decimal, sym, refl, ap, ◌∙◌, subst, arith, pow_mono}
-use Rattle.std.specs.List.{AllByRecursion as All}
+use Rattle.std.specs.List.{AllByRecursion}
 use Rattle.std.proofs.lemmas.List.{length-append}
 use Rattle.std.proofs.lemmas.Bool.{and_parts, and_from, eqb-true, leb-true, ltb-true, eq-eqb}
 use Rattle.bus.specs.Range.{Span, inside, numbers, buses, payloads, periods, deadlines, jitters, bit_times, bridge_times}
@@ -46,7 +46,7 @@ line-long : (w : List ℕ) (ws : List (List ℕ)) → length (line_text (w ∷ w
 line-long w ws =
     omega (arith, length-append (between space (w ∷ ws)) (lf ∷ []), length-append w (behind_first space ws), behind-long ws)
 
-all-passed : (ts : List Test) → all_pass ts ≡ true → All (λ (t : Test). t.passes ≡ true) ts
+all-passed : (ts : List Test) → all_pass ts ≡ true → AllByRecursion (λ (t : Test). t.passes ≡ true) ts
 all-passed [] h = tt
 all-passed (t ∷ ts) h =
     let both = and_parts t.passes (all_pass ts) h in

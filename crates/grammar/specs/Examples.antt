@@ -1,12 +1,11 @@
 -- Small sheets, and what they mean.
-use Rattle.std.specs.Prelude.{◌≡◌, ℕ, List, [], ◌∷◌, ◌++◌, Some, None, Ok, codes, Option}
+use Rattle.std.specs.Prelude.{◌≡◌, ℕ, List, [], ◌∷◌, ◌++◌, Some, Ok, codes, Option}
 use Rattle.std.specs.List.{flat_map}
 use Rattle.bus.specs.declared.refusal.Refusal.{Refusal}
 use Rattle.bus.specs.declared.refusal.Refusal.TheVariants.{Form, Count, Range, NoBus, SourceIsDestination, Taken}
 use Rattle.grammar.specs.Content.{Content}
 use Rattle.grammar.specs.Faults.{Placed, sheet_fault, meaning}
 use Rattle.grammar.specs.Text.{lf}
-use Rattle.grammar.specs.Written.{sheet_text}
 use Rattle.grammar.specs.declared.kind.Kind.TheVariants.{Can11, Fd11}
 use Rattle.grammar.specs.declared.layer.Layer.{Layer}
 use Rattle.grammar.specs.declared.layer.Layer.TheVariants.{Word, Rule, Board}

@@ -1,5 +1,5 @@
 -- The faults of a sheet, which of them is reported, and what a sheet without faults means.
-use Rattle.std.specs.Prelude.{◌≡◌, ℕ, zero, suc, ◌-◌, ◌<◌, ◌≤◌, max, Bool, true, false, cond, ◌⊎◌, List, [], ◌∷◌, length, Some, None, Ok, Err, MatchBool, Option, Result, ◌==◌, nat_le, nat_lt}
+use Rattle.std.specs.Prelude.{◌≡◌, ℕ, zero, suc, ◌-◌, ◌≤◌, max, Bool, false, cond, ◌⊎◌, List, [], ◌∷◌, length, Some, None, Ok, Err, MatchBool, Option, Result, ◌==◌, nat_le, nat_lt}
 use Rattle.bus.specs.declared.refusal.Refusal.TheVariants.{Count}
 use Rattle.grammar.specs.Content.{Content, content_of, bus_total, first_message, last_wanted, earlier_than}
 use Rattle.grammar.specs.Lines.{Fault, Test, buses_tests, messages_tests, gateway_tests, bus_tests, message_tests, missing_tests, surplus_tests}

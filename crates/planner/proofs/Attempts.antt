@@ -1,5 +1,5 @@
 -- A try call, by the stages before and after it, as a log has it.
-use Rattle.std.proofs.Common.{◌≡◌, ℕ, Bool, true, false, cond, eqb, List, Some, None, sym, refl, ap, ◌∙◌, subst, arith}
+use Rattle.std.proofs.Common.{◌≡◌, ℕ, false, eqb, List, Some, None, sym, refl, ap, ◌∙◌, arith}
 use Rattle.std.proofs.lemmas.Bool.{ne_eqb, cond-false, false≢true}
 use Rattle.std.proofs.lemmas.Bool.Decides.{nat_tests}
 use Rattle.bus.specs.Rules.{Meaning}
@@ -15,9 +15,9 @@ use Rattle.search.proofs.Tries.{tries-make_what_is_left}
 use Rattle.boards.specs.Boards.{Board, board_of, Sound}
 use Rattle.boards.specs.Nets.{net_of}
 use Rattle.boards.proofs.BoardLaws.{legs_distinct}
-use Rattle.planner.specs.Logs.{Answer, refused, tried, attempt, Gives}
+use Rattle.planner.specs.Logs.{refused, tried, attempt, Gives}
 use Rattle.planner.specs.Refusing.{try_fault, is_none}
-use Rattle.planner.specs.Standing.{Standing, end_of, progress_of}
+use Rattle.planner.specs.Standing.{end_of, progress_of}
 use Rattle.planner.specs.Stages.{stage_of, progress_by}
 use Rattle.planner.specs.declared.progress.Progress.{Progress}
 use Rattle.planner.specs.declared.progress.Progress.TheVariants.{Found, Nothing, GoingOn}

@@ -1,5 +1,5 @@
 -- What a board's invariants give: it is sound, its walk is placed, and where it is complete its ranked legs are all its legs, each once.
-use Rattle.std.proofs.Common.{◌≡◌, ℕ, ◌≤◌, true, not, ◌&&◌, List, map, length, is_some, Some, vec_items, sym, refl, ap, ◌∙◌, subst, arith}
+use Rattle.std.proofs.Common.{◌≡◌, ℕ, ◌≤◌, true, not, ◌&&◌, List, map, length, is_some, Some, vec_items, sym, ap, ◌∙◌, subst, arith}
 use Rattle.std.proofs.lemmas.Bool.{and_parts}
 use Rattle.bus.specs.Rules.{Meaning}
 use Rattle.bus.specs.declared.message.Message.{Message}

@@ -1,5 +1,5 @@
 -- What check answers, as a log has it.
-use Rattle.std.proofs.Common.{◌≡◌, ℕ, ◌<◌, ◌≤◌, Bool, true, false, not, ltb, List, [], ◌∷◌, ◌++◌, length, take, drop, Some, None, Option, sym, refl, ap, ◌∙◌, subst, arith}
+use Rattle.std.proofs.Common.{◌≡◌, ℕ, ◌<◌, ◌≤◌, Bool, true, false, not, ltb, List, [], ◌∷◌, length, take, drop, None, Option, sym, refl, ap, ◌∙◌, arith}
 use Rattle.std.proofs.lemmas.List.{take_at}
 use Rattle.std.proofs.lemmas.Bool.{lt-ltb, le-ltb}
 use Rattle.bus.specs.declared.message.Message.{Message}
@@ -10,7 +10,7 @@ use Rattle.boards.specs.Boards.{Board, bus_count}
 use Rattle.boards.specs.Nets.{net_of}
 use Rattle.planner.specs.Checks.{orders_in, named, margin_rows, all_met}
 use Rattle.planner.specs.Logs.{refused, checked, check, margin_count, Gives}
-use Rattle.planner.specs.Refusing.{refused_if, is_none, check_fault}
+use Rattle.planner.specs.Refusing.{refused_if, is_none}
 use Rattle.planner.specs.Spots.{Written}
 use Rattle.planner.specs.Standing.{Standing}
 use Rattle.planner.specs.declared.rows.Margin.{Margin}

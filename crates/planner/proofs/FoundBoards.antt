@@ -1,9 +1,8 @@
 -- Whether the walk of a board has ended with found, by its stage.
-use Rattle.std.proofs.Common.{◌≡◌, ℕ, Bool, true, false, cond, eqb, List, map, is_some, Some, None, Option, sym, refl, ap, ◌∙◌, subst, arith}
+use Rattle.std.proofs.Common.{◌≡◌, true, false, eqb, List, Some, None, sym, ap, ◌∙◌}
 use Rattle.std.proofs.lemmas.Bool.{ne_eqb, cond-true, cond-false, false≢true}
-use Rattle.search.specs.Net.{Leg, Net}
+use Rattle.search.specs.Net.{Leg}
 use Rattle.search.specs.Stored as walk
-use Rattle.search.specs.Walk.{Walked}
 use Rattle.search.proofs.Over.{over_where_no_try_is_left, complete_has_its_orders}
 use Rattle.search.proofs.Stored.{first-stage_has_all}
 use Rattle.boards.specs.Boards.{Board, Sound}

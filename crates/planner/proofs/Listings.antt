@@ -1,18 +1,17 @@
 -- What list and look answer, as a log has it.
-use Rattle.std.proofs.Common.{◌≡◌, ℕ, ◌<◌, ◌≤◌, Bool, true, false, not, ◌&&◌, ltb, leb, List, [], ◌∷◌, ◌++◌, map, length, take, drop, is_some, Some, None, Option, sym, refl, ap, ◌∙◌, subst, arith}
-use Rattle.std.proofs.lemmas.List.{take_at, drop_at}
+use Rattle.std.proofs.Common.{◌≡◌, ℕ, ◌<◌, ◌≤◌, Bool, true, false, not, ◌&&◌, leb, List, ◌++◌, length, take, drop, is_some, Some, None, sym, refl, ap, ◌∙◌, subst}
+use Rattle.std.proofs.lemmas.List.{take_at}
 use Rattle.std.proofs.lemmas.Bool.{and_parts, not-true, not-false, leb-true, lt-ltb, le-ltb, false≢true}
-use Rattle.std.proofs.lemmas.Bool.Decides.{nat_tests}
 use Rattle.bus.specs.Range.{inside, buses, numbers}
 use Rattle.bus.specs.declared.message.Message.{Message}
 use Rattle.bus.specs.declared.refusal.Refusal.{Refusal}
 use Rattle.bus.specs.declared.refusal.Refusal.TheVariants.{Range, NoBus, NoLeg, NotFound, FewRows}
 use Rattle.search.specs.Net.{Leg}
 use Rattle.search.specs.Stored as walk
-use Rattle.boards.specs.Boards.{Board, bus_count, board_of, message_of, Sound}
+use Rattle.boards.specs.Boards.{Board, bus_count, message_of, Sound}
 use Rattle.boards.specs.Nets.{leg_from, net_of}
 use Rattle.planner.specs.Calls.{rows_of, row_at}
-use Rattle.planner.specs.Logs.{Answer, refused, looked, listed, look, list, row_count, Gives}
+use Rattle.planner.specs.Logs.{refused, looked, listed, look, list, row_count, Gives}
 use Rattle.planner.specs.Refusing.{refused_if, is_none, look_fault, list_fault}
 use Rattle.planner.specs.Stages.{stage_of, is_complete}
 use Rattle.planner.specs.Standing.{Standing, found_orders}

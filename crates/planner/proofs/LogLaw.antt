@@ -1,5 +1,5 @@
 -- Every log of a sound board keeps the law: by induction over its lines, with what is left of the walk of the board of the moment.
-use Rattle.std.proofs.Common.{◌≡◌, ℕ, ◌+◌, ◌-◌, ◌^◌, ◌≤◌, min, Bool, true, false, cond, not, ◌&&◌, eqb, ltb, leb, ◌⊎◌, List, [], ◌∷◌, is_some, Some, None, Option, sym, refl, ap, ◌∙◌, subst, inl, inr, ⊎_elim, arith}
+use Rattle.std.proofs.Common.{◌≡◌, ℕ, ◌+◌, ◌-◌, ◌^◌, ◌≤◌, min, Bool, true, false, cond, ◌&&◌, eqb, ltb, leb, ◌⊎◌, List, [], ◌∷◌, is_some, Some, None, Option, sym, refl, ap, ◌∙◌, subst, inl, inr, ⊎_elim, arith}
 use Rattle.std.proofs.lemmas.Bool.{le-leb, cond-true, not-false}
 use Rattle.bus.specs.Entries.{Holds}
 use Rattle.bus.specs.declared.entry.Entry.{Entry}
@@ -7,9 +7,8 @@ use Rattle.bus.specs.declared.message.Message.{Message}
 use Rattle.bus.specs.declared.refusal.Refusal.{Refusal}
 use Rattle.search.specs.Net.{Leg}
 use Rattle.search.specs.Machine.{left_after}
-use Rattle.search.specs.Walk.{Walked, walk}
+use Rattle.search.specs.Walk.{walk}
 use Rattle.boards.specs.Boards.{Board, bus_count, message_of, on_board, Belong, Sound}
-use Rattle.boards.specs.Laws.{WalkLaws}
 use Rattle.boards.specs.Nets.{net_of}
 use Rattle.boards.proofs.BoardLaws.{walk_laws-hold}
 use Rattle.planner.specs.Calls.{rows_of, row_at}

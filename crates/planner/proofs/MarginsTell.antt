@@ -1,6 +1,6 @@
 -- A margin is below zero exactly where the delay is late; and so all is met exactly where none is below zero.
-use Rattle.std.proofs.Common.{◌≡◌, ℕ, ◌+◌, Bool, true, false, not, ◌&&◌, List, [], ◌∷◌, ◌++◌, map, is_some, Some, None, Option, sym, refl, ap, ◌∙◌, inl, inr, arith}
-use Rattle.std.specs.List.{flat_map, filter, AllByRecursion as All}
+use Rattle.std.proofs.Common.{◌≡◌, ℕ, Bool, true, false, not, ◌&&◌, List, [], ◌∷◌, ◌++◌, map, is_some, Some, None, Option, sym, refl, ap, ◌∙◌, inl, inr, arith}
+use Rattle.std.specs.List.{flat_map, filter, AllByRecursion}
 use Rattle.std.proofs.lemmas.Int.{ints}
 use Rattle.std.proofs.lemmas.Bool.{cases_Bool, cond-true, cond-false}
 use Rattle.std.proofs.lemmas.Bool.Decides.{nat_tests}
@@ -105,7 +105,7 @@ module _ (net : Net) (os : List (List Leg)) where
       ]
 
 -- ---------------------------------------------------------------- all
-pub met-where_none_below : (b : Board) → All Keeps b.rules → rising_messages b.messages ≡ true → (os : List (List Leg)) →
+pub met-where_none_below : (b : Board) → AllByRecursion Keeps b.rules → rising_messages b.messages ≡ true → (os : List (List Leg)) →
     none_below (margin_rows b os) ≡ all_met (net_of b) os
 met-where_none_below b keeps rise os =
     all-met (net_of b) os b.messages (λ m among bus. own_delay b keeps rise m (message_among b.messages m rise among) os bus)

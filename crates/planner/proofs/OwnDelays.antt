@@ -1,6 +1,6 @@
 -- A delay in whatever orders is at most the deadline of its message.
 use Rattle.std.proofs.Common.{◌≡◌, ℕ, zero, suc, ◌≤◌, Bool, true, false, cond, eqb, List, [], ◌∷◌, Some, None, Option, sym, refl, ap, ◌∙◌, inl, inr, arith}
-use Rattle.std.specs.List.{AllByRecursion as All}
+use Rattle.std.specs.List.{AllByRecursion}
 use Rattle.std.proofs.lemmas.Bool.{cond-true, cond-false, cases_Bool}
 use Rattle.bus.specs.Legs.{leg_on, leg_of, legs_on}
 use Rattle.bus.specs.Numbered.{member}
@@ -25,13 +25,13 @@ same-leg e = cc
 none-leg : {P : Type 0} (u : BusLeg) → ◌≡◌ {A = Option BusLeg} None (Some u) → P
 none-leg u e = let z : ◌≡◌ {A = ℕ} 0 1 = cc in absurd (omega arith)
 
-rule_bounded : (fs : List Meaning) → All Keeps fs → (k : ℕ) → Bounded (rule_at fs k)
+rule_bounded : (fs : List Meaning) → AllByRecursion Keeps fs → (k : ℕ) → Bounded (rule_at fs k)
 rule_bounded [] keeps k = λ legs n h leg d rises on e. no_delay d e
 rule_bounded (f ∷ fs) keeps zero = λ legs n h leg d rises on e. no_delay d e
 rule_bounded (f ∷ fs) keeps (suc zero) = keeps.0.bounded
 rule_bounded (f ∷ fs) keeps (suc (suc k)) = rule_bounded fs keeps.1 (suc k)
 
-rule_absent : (fs : List Meaning) → All Keeps fs → (k : ℕ) → Absent (rule_at fs k)
+rule_absent : (fs : List Meaning) → AllByRecursion Keeps fs → (k : ℕ) → Absent (rule_at fs k)
 rule_absent [] keeps k = λ legs n h rises off. refl
 rule_absent (f ∷ fs) keeps zero = λ legs n h rises off. refl
 rule_absent (f ∷ fs) keeps (suc zero) = keeps.0.absent
@@ -59,7 +59,7 @@ module _ (b : Board) (x : Leg) (d : ℕ) where
         | inr t ↦ by_rule os (sym (cond-false (has x o) _ _ t) ∙ e)
       ]
 
-module _ (b : Board) (keeps : All Keeps b.rules) (rise : rising_messages b.messages ≡ true) (m : Message) (here : message_of b.messages m.number ≡ Some m) where
+module _ (b : Board) (keeps : AllByRecursion Keeps b.rules) (rise : rising_messages b.messages ≡ true) (m : Message) (here : message_of b.messages m.number ≡ Some m) where
   -- the leg that a rule is shown is the message's
   its_leg : (bus : ℕ) → leg_of (legs_on b.messages bus) m.number ≡ leg_on m bus
   its_leg bus = legs_of_messages b.messages bus m.number rise ∙ ap (leg_from bus) here

@@ -1,13 +1,11 @@
 -- Tries given in several calls: what they leave of a walk, and what a try call answers then.
-use Rattle.std.proofs.Common.{◌≡◌, ℕ, ◌+◌, ◌-◌, ◌≤◌, min, Bool, true, false, cond, eqb, leb, List, Some, None, Option, sym, refl, ap, ◌∙◌, subst, arith}
-use Rattle.std.proofs.lemmas.Bool.{le-leb, cond-true}
+use Rattle.std.proofs.Common.{◌≡◌, ℕ, ◌+◌, ◌-◌, min, Bool, true, false, cond, eqb, leb, List, Some, None, Option, refl, ap, arith}
 use Rattle.std.proofs.lemmas.Bool.Decides.{nat_tests}
 use Rattle.search.specs.Net.{Leg}
 use Rattle.search.specs.Machine.{left_after}
 use Rattle.search.specs.Walk.{Walked}
 use Rattle.planner.specs.Standing.{end_of, progress_of}
-use Rattle.planner.specs.declared.progress.Progress.{Progress}
-use Rattle.planner.specs.declared.progress.Progress.TheVariants.{Found, Nothing, GoingOn}
+use Rattle.planner.specs.declared.progress.Progress.TheVariants.{Nothing, GoingOn}
 
 pub after_more : (n k : ℕ) (w : Walked) → left_after k (left_after n w) ≡ left_after (n + k) w
 after_more n k w =

@@ -1,5 +1,5 @@
 -- Where a board stands: what is on it, and what is still to come of its walk.
-use Rattle.std.specs.Prelude.{ℕ, Bool, cond, List, Some, None, Option, ◌==◌}
+use Rattle.std.specs.Prelude.{cond, List, Some, None, Option, ◌==◌}
 use Rattle.search.specs.Net.{Leg}
 use Rattle.search.specs.Walk.{Walked, walk}
 use Rattle.boards.specs.Boards.{Board}

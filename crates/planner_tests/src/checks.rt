@@ -1,5 +1,5 @@
 // Margins of orders made by hand.
-use crate::boards::{crossing, rules};
+use crate::shared_boards::{crossing, rules};
 use planner::board::Board;
 use planner::rows::{Margin, Spot};
 use std::test::Fail;

@@ -2,13 +2,13 @@
 #![tactic(auto)]
 
 #[cfg(test)]
-mod boards;
-#[cfg(test)]
 mod checks;
 #[cfg(test)]
 mod logs;
 #[cfg(test)]
 mod refusals;
+#[cfg(test)]
+mod shared_boards;
 #[cfg(test)]
 mod sizes;
 #[cfg(test)]

@@ -1,5 +1,5 @@
 // Whole lists of calls, and what each of them answers.
-use crate::boards::{entry, rules};
+use crate::shared_boards::{entry, rules};
 use bus::refusal::Refusal;
 use frames::can11::Can11;
 use frames::equation::Equation;

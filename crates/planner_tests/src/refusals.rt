@@ -1,5 +1,5 @@
 // Every refusal of the calls, and that the smallest number is given.
-use crate::boards::{crossing, entry, rules};
+use crate::shared_boards::{crossing, entry, rules};
 use bus::refusal::Refusal;
 use frames::can11::Can11;
 use frames::equation::Equation;

@@ -1,5 +1,5 @@
 // Boards of the largest size, tries in pieces, and a board made anew.
-use crate::boards::{entry, rules};
+use crate::shared_boards::{entry, rules};
 use frames::can11::Can11;
 use frames::equation::Equation;
 use planner::board::Board;

@@ -1,5 +1,5 @@
 // What the walk comes to, in one call and in many.
-use crate::boards::{crossing, entry, rules};
+use crate::shared_boards::{crossing, entry, rules};
 use planner::board::Board;
 use planner::progress::Progress;
 use planner::rows::Row;

@@ -1,6 +1,6 @@
 -- The tries of a walk are at most the bound.
 use Rattle.std.proofs.Common.{ℕ, zero, suc, ◌+◌, ◌*◌, ◌≤◌, Bool, true, false, List, [], ◌∷◌, length, Some, None, Option, le_trans, mul-le-mul_right, suc-mul, one-add, arith}
-use Rattle.std.specs.List.{AllByRecursion as All}
+use Rattle.std.specs.List.{AllByRecursion}
 use Rattle.search.specs.Net.{Leg, Net, less, Delays}
 use Rattle.search.specs.Walk.{Walked, or_go_on, tested, test_all, walk_bus, walk_from, put, fit, ready, candidates}
 use Rattle.search.specs.Bound.{F, bound}
@@ -21,7 +21,7 @@ tested-at_most (Some d) b above r y h =
 
 -- where what follows each candidate takes at most y tries
 tests_at-most : (fits : Leg → Option ℕ) (is_ready : Leg → Bool) (above : Leg → ℕ → Walked) (y : ℕ) (cs : List Leg) →
-    All (λ c. (d : ℕ) → (above c d).tries ≤ y) cs → (test_all fits is_ready above cs).tries ≤ length cs * suc y
+    AllByRecursion (λ c. (d : ℕ) → (above c d).tries ≤ y) cs → (test_all fits is_ready above cs).tries ≤ length cs * suc y
 tests_at-most fits is_ready above y [] h = omega arith
 tests_at-most fits is_ready above y (c ∷ cs) h =
     omega (

@@ -1,12 +1,11 @@
 -- The open legs of a bus: the candidates of a rank are as many, and to rank one of them leaves fewer.
-use Rattle.std.proofs.Common.{◌≡◌, ℕ, ◌<◌, ◌≤◌, true, not, List, [], ◌∷◌, length, Some, refl, arith}
-use Rattle.std.specs.List.{AllByRecursion as All}
+use Rattle.std.proofs.Common.{◌≡◌, ℕ, ◌<◌, ◌≤◌, not, List, [], ◌∷◌, length, Some, refl, arith}
+use Rattle.std.specs.List.{AllByRecursion}
 use Rattle.std.proofs.ByRecursion.{All-append, all_kept_by, All-weaker}
 use Rattle.std.proofs.lemmas.List.Filters.{length-filter_both}
 use Rattle.std.proofs.lemmas.List.{length-append}
-use Rattle.std.proofs.lemmas.Bool.Decides.{nat_tests}
 use Rattle.search.proofs.Legs.{same-itself}
-use Rattle.search.specs.Net.{Leg, same, Net, less, Delays}
+use Rattle.search.specs.Net.{Leg, Net, less, Delays}
 use Rattle.search.specs.Walk.{Walked, put, ready, candidates, after, under, walk_bus}
 
 pub less-no_longer : (x : Leg) (l : List Leg) → length (less x l) ≤ length l
@@ -14,7 +13,7 @@ less-no_longer x [] = omega arith
 less-no_longer x (y ∷ l) = grind (arith, less-no_longer x l)
 
 -- each leg of a list leaves a shorter one
-each_shortens : (l : List Leg) → All (λ x. length (less x l) < length l) l
+each_shortens : (l : List Leg) → AllByRecursion (λ x. length (less x l) < length l) l
 each_shortens [] = tt
 each_shortens (y ∷ l) =
     (grind (arith, same-itself y, less-no_longer y l), All-weaker _ _ (λ x h. grind (arith, h)) l (each_shortens l))
@@ -25,9 +24,9 @@ candidates-count net p l =
 
 -- what holds of each leg that leaves fewer open holds of each candidate
 pub candidates-each : (net : Net) (p : Delays) (l : List Leg) (P : Leg → Type 0) →
-    ((c : Leg) → length (less c l) < length l → P c) → All P (candidates net p l)
+    ((c : Leg) → length (less c l) < length l → P c) → AllByRecursion P (candidates net p l)
 candidates-each net p l P h =
-    let each : All P l = All-weaker _ P h l (each_shortens l) in
+    let each : AllByRecursion P l = All-weaker _ P h l (each_shortens l) in
     search (All-append, all_kept_by)
 
 -- what comes of ranking c at the delay d, where the legs l are open; n is room enough for those that stay open

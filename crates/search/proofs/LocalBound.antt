@@ -1,7 +1,7 @@
 -- Where no message crosses, the tries of a walk are at most n(n+1)/2 added over the buses.
 -- Then every leg is ready, and a ready leg that fits ends the testing at its rank.
 use Rattle.std.proofs.Common.{◌≡◌, ℕ, zero, suc, ◌+◌, ◌*◌, ◌/◌, ◌≤◌, Bool, true, List, [], ◌∷◌, length, Some, None, Option, refl, le_trans, suc-mul, mul-suc, arith}
-use Rattle.std.specs.List.{AllByRecursion as All}
+use Rattle.std.specs.List.{AllByRecursion}
 use Rattle.search.specs.Lists.{every}
 use Rattle.search.specs.Net.{Leg, Net, less, Delays}
 use Rattle.search.specs.Walk.{Walked, or_go_on, tested, test_all, walk_bus, walk_from, put, fit, ready, candidates}
@@ -23,7 +23,7 @@ ready-at_most (Some d) b above r y m e h later =
 
 -- where every candidate is ready, and what follows each takes at most y tries
 ready-tests_at_most : (fits : Leg → Option ℕ) (is_ready : Leg → Bool) (above : Leg → ℕ → Walked) (y : ℕ) →
-    ((c : Leg) → is_ready c ≡ true) → (cs : List Leg) → All (λ c. (d : ℕ) → (above c d).tries ≤ y) cs →
+    ((c : Leg) → is_ready c ≡ true) → (cs : List Leg) → AllByRecursion (λ c. (d : ℕ) → (above c d).tries ≤ y) cs →
     (test_all fits is_ready above cs).tries ≤ length cs + y
 ready-tests_at_most fits is_ready above y all [] h = omega arith
 ready-tests_at_most fits is_ready above y all (c ∷ cs) h =

@@ -1,6 +1,6 @@
 -- The place above the ranked legs: its delays are those stored, and its open legs and the legs after them are not ranked.
 use Rattle.std.proofs.Common.{◌≡◌, ℕ, true, List, [], ◌∷◌, Some, None, Option, sym, refl, ap, ◌∙◌, arith}
-use Rattle.std.specs.List.{AllByRecursion as All}
+use Rattle.std.specs.List.{AllByRecursion}
 use Rattle.std.proofs.ByRecursion.{All-weaker}
 use Rattle.std.proofs.lemmas.Bool.{and_parts, and_from, or_left}
 use Rattle.std.proofs.lemmas.Bool.Decides.{nat_tests}
@@ -122,7 +122,7 @@ stored-before : (r s : Ranked) (rs : List Ranked) → stored rs r.leg ≡ None �
 stored-before r s rs n e = grind (arith, same-tells r.leg s.leg)
 
 pub stored-each : (net : Net) → Apart net.buses → (rs : List Ranked) → placed net rs ≡ true →
-    All (λ r. stored rs r.leg ≡ Some r.delay) rs
+    AllByRecursion (λ r. stored rs r.leg ≡ Some r.delay) rs
 stored-each net a [] k = tt
 stored-each net a (r ∷ rs) k =
     let none = was_unranked net a r rs k in (

@@ -1,6 +1,6 @@
 -- The recursion that fills a bus is given a number, its room. Any room of at least the open legs comes to the same.
 use Rattle.std.proofs.Common.{◌≡◌, ℕ, zero, suc, ◌<◌, ◌≤◌, Bool, List, [], ◌∷◌, length, Some, None, Option, refl, ap, arith}
-use Rattle.std.specs.List.{AllByRecursion as All}
+use Rattle.std.specs.List.{AllByRecursion}
 use Rattle.search.specs.Net.{Leg, Net, less, Delays}
 use Rattle.search.specs.Walk.{Walked, tick, or_go_on, tested, test_all, walk_bus, walk_from, put, fit, ready, candidates, after, under}
 use Rattle.search.specs.Machine.{explore, testing}
@@ -13,7 +13,7 @@ tested-same None b f g r s h e = e
 tested-same (Some d) b f g r s h e = λ i. or_go_on b (h d i).tries (h d i).outcome (e i)
 
 tests_same : (fits : Leg → Option ℕ) (is_ready : Leg → Bool) (f g : Leg → ℕ → Walked) (cs : List Leg) →
-    All (λ c. (d : ℕ) → f c d ≡ g c d) cs → test_all fits is_ready f cs ≡ test_all fits is_ready g cs
+    AllByRecursion (λ c. (d : ℕ) → f c d ≡ g c d) cs → test_all fits is_ready f cs ≡ test_all fits is_ready g cs
 tests_same fits is_ready f g [] h = refl
 tests_same fits is_ready f g (c ∷ cs) h =
     ap tick (tested-same (fits c) (is_ready c) (f c) (g c) _ _ h.0 (tests_same fits is_ready f g cs h.1))

@@ -1,5 +1,5 @@
 -- The net that is planned: legs on buses, the pairs that cross the gateway, and the delay of a leg below others.
-use Rattle.std.specs.Prelude.{ℕ, Bool, true, false, cond, ◌&&◌, ◌||◌, List, [], ◌∷◌, Option, ◌==◌}
+use Rattle.std.specs.Prelude.{ℕ, Bool, false, cond, ◌&&◌, ◌||◌, List, [], ◌∷◌, Option, ◌==◌}
 
 -- a leg: a message on one bus
 pub record Leg : Type 0 where

@@ -1,7 +1,7 @@
 -- How a program stores the walk: the ranked legs with their delays, and the leg that is tested next, or that the walk has ended. The rest
 -- is computed from these. No public contract of the planner cites this file: what a caller is told is the walk.
 use Rattle.std.specs.Prelude.{◌≡◌, ℕ, zero, suc, ◌+◌, min, Bool, true, false, cond, not, ◌&&◌, List, [], ◌∷◌, ◌++◌, map, length, is_some, Some, None, Option, ◌==◌}
-use Rattle.std.specs.List.{filter, AllByRecursion as All}
+use Rattle.std.specs.List.{filter, AllByRecursion}
 use Rattle.search.specs.Lists.{every}
 use Rattle.search.specs.Net.{Leg, same, Net, has, less, Delays}
 use Rattle.search.specs.Deadlines.{delays}
@@ -277,7 +277,7 @@ CompleteHasItsOrders = (net : Net) → Apart net.buses → (rs : List Ranked) �
 -- the delays stored are those in the orders found: for every leg, and so for each ranked one
 pub record DelaysStored (net : Net) (rs : List Ranked) : Type 0 where
   pub table : (y : Leg) → delays net (orders_of net rs) y ≡ stored rs y
-  pub each : All (λ r. delays net (orders_of net rs) r.leg ≡ Some r.delay) rs
+  pub each : AllByRecursion (λ r. delays net (orders_of net rs) r.leg ≡ Some r.delay) rs
 
 abbrev pub FoundDelaysAreStored : Type 0
 FoundDelaysAreStored = (net : Net) → Lawful net → (rs : List Ranked) → kept_at net (complete rs) ≡ true → DelaysStored net rs

@@ -4,7 +4,7 @@ use Rattle.std.specs.Prelude.{ℕ, zero, suc, ◌+◌, Bool, true, false, cond, 
 use Rattle.std.specs.Option.{option_map}
 use Rattle.std.specs.List.{filter}
 use Rattle.search.specs.Lists.{every}
-use Rattle.search.specs.Net.{Leg, same, Pair, Net, has, less, touches, Delays}
+use Rattle.search.specs.Net.{Leg, same, Pair, Net, less, touches, Delays}
 use Rattle.search.specs.Deadlines.{met}
 
 -- ---------------------------------------------------------------- the test of one leg

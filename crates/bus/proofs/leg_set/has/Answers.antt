@@ -1,4 +1,3 @@
-use Rattle.std.proofs.Common.{arith}
 use Rattle.bus.proofs.Members.{member-outside, member-shifted}
 use Rattle.bus.proofs.leg_set.has.Goals as goal
 

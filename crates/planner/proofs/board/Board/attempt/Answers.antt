@@ -1,10 +1,10 @@
-use Rattle.std.proofs.Common.{◌≡◌, true, List, map, vec_items, sym, ap, ◌∙◌, subst}
+use Rattle.std.proofs.Common.{◌≡◌, List, map, vec_items, ap, ◌∙◌, subst}
 use Rattle.bus.specs.declared.message.Message.{Message}
 use Rattle.search.specs.Stored as walk
 use Rattle.boards.specs.Boards.{board_of, Sound}
 use Rattle.boards.specs.Nets.{net_of}
 use Rattle.planner.specs.Stages.{stage_of}
-use Rattle.planner.proofs.Attempts.{progress_at, attempt_gives, tried-some, told_by}
+use Rattle.planner.proofs.Attempts.{attempt_gives, tried-some, told_by}
 use Rattle.planner.proofs.FreshBoards.{board-sound}
 use Rattle.planner.proofs.board.Board.attempt.Goals as goal
 

@@ -1,4 +1,4 @@
-use Rattle.std.proofs.Common.{◌≡◌, ℕ, ◌≤◌, true, not, ◌&&◌, List, map, length, is_some, Some, None, vec_items, sym, refl, ap, ◌∙◌, subst, arith}
+use Rattle.std.proofs.Common.{◌≡◌, ℕ, ◌≤◌, true, not, ◌&&◌, List, map, length, is_some, Some, None, vec_items, sym, ap, ◌∙◌, subst, arith}
 use Rattle.bus.specs.declared.message.Message.{Message}
 use Rattle.search.specs.Stored as walk
 use Rattle.boards.specs.Boards.{board_of, Keeps}

@@ -1,9 +1,9 @@
-use Rattle.std.proofs.Common.{◌≡◌, ◌≤◌, List, [], map, length, None, vec_items, sym, refl, ap, ◌∙◌, subst, arith}
+use Rattle.std.proofs.Common.{◌≡◌, ◌≤◌, [], map, length, None, vec_items, refl, ap, ◌∙◌, subst, arith}
 use Rattle.search.specs.Lists.{every}
 use Rattle.boards.specs.Boards.{board_of, rising_messages, on_board, Sound}
 use Rattle.planner.specs.Logs.{Happened}
 use Rattle.planner.specs.Refusing.{make_fault}
-use Rattle.planner.specs.Standing.{Standing, fresh}
+use Rattle.planner.specs.Standing.{fresh}
 use Rattle.planner.proofs.FreshBoards.{start-stands, begun, begun_fresh, board-sound, make_accepted}
 use Rattle.planner.proofs.LogLaw.{every-log_keeps_the_law}
 use Rattle.planner.proofs.board.Board.make.Goals as goal

@@ -1,4 +1,4 @@
-use Rattle.std.proofs.Common.{◌≡◌, vec_items, refl, ap, ◌∙◌, arith}
+use Rattle.std.proofs.Common.{vec_items, ap, arith}
 use Rattle.search.specs.Lists.{every}
 use Rattle.boards.specs.Boards.{rising_messages, on_board}
 use Rattle.planner.proofs.FreshBoards.{start-stands}
