@@ -4,7 +4,7 @@
 #[cfg(test)]
 mod checks;
 #[cfg(test)]
-mod logs;
+mod logged_calls;
 #[cfg(test)]
 mod refusals;
 #[cfg(test)]
