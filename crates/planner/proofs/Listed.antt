@@ -6,7 +6,7 @@ use Rattle.bus.specs.declared.message.Message.{Message}
 use Rattle.search.specs.Lists.{every}
 use Rattle.search.specs.Net.{Leg, Pair, has, touches, Delays}
 use Rattle.search.specs.Walk.{partnered, ready, candidates}
-use Rattle.search.specs.Stored.{Ranked, behind, first_of, stored}
+use Rattle.search.specs.Stored.{Ranked, behind, head_of, stored}
 use Rattle.search.proofs.Legs.{has_kept}
 use Rattle.boards.specs.Boards.{message_of, rising_messages}
 use Rattle.boards.specs.Nets.{leg_at, net_legs, leg_from, pairs_of}
@@ -52,9 +52,9 @@ module _ (ms : List Message) (n : ℕ) (o : Option Message) (answer : o ≡ mess
 
   module _ (count bus : ℕ) (rs : List Ranked) (l : List Leg) where
     -- what is tested after the message's leg
-    pub message_next : (x : Option Leg) → x ≡ first_of (behind (leg_at bus m.number) (candidates (layout count ms) (stored rs) l)) →
-        x ≡ first_of (behind (leg_at bus n) (candidates (layout count ms) (stored rs) l))
-    message_next x e = e ∙ ap (λ (k : ℕ). first_of (behind (leg_at bus k) (candidates (layout count ms) (stored rs) l))) message_number
+    pub message_next : (x : Option Leg) → x ≡ head_of (behind (leg_at bus m.number) (candidates (layout count ms) (stored rs) l)) →
+        x ≡ head_of (behind (leg_at bus n) (candidates (layout count ms) (stored rs) l))
+    message_next x e = e ∙ ap (λ (k : ℕ). head_of (behind (leg_at bus k) (candidates (layout count ms) (stored rs) l))) message_number
 
     is_ready : rising_messages ms ≡ true →
         every (partnered (stored rs) (leg_at bus m.number)) (pairs_of m) ≡ ready (layout count ms) (stored rs) (leg_at bus n)
@@ -68,6 +68,6 @@ module _ (ms : List Message) (n : ℕ) (o : Option Message) (answer : o ≡ mess
     none-after_ready rises e = sym (cond-true _ _ _ (sym (e ∙ is_ready rises)))
 
     pub next-after_unready : rising_messages ms ≡ true → false ≡ every (partnered (stored rs) (leg_at bus m.number)) (pairs_of m) →
-        (x : Option Leg) → x ≡ first_of (behind (leg_at bus m.number) (candidates (layout count ms) (stored rs) l)) →
+        (x : Option Leg) → x ≡ head_of (behind (leg_at bus m.number) (candidates (layout count ms) (stored rs) l)) →
         x ≡ after_ranked (layout count ms) rs l (leg_at bus n)
     next-after_unready rises e x next = message_next x next ∙ sym (cond-false _ _ _ (sym (e ∙ is_ready rises)))

@@ -4,7 +4,7 @@ use Rattle.std.specs.List.{filter}
 use Rattle.bus.specs.declared.message.Message.{Message}
 use Rattle.search.specs.Net.{Leg, Net, has, less, Delays}
 use Rattle.search.specs.Walk.{candidates}
-use Rattle.search.specs.Stored.{Ranked, first_of, unranked, or_next, first_open}
+use Rattle.search.specs.Stored.{Ranked, head_of, unranked, or_next, first_open}
 use Rattle.search.proofs.Counts.{candidates-count}
 use Rattle.search.proofs.Legs.{has_kept}
 use Rattle.search.proofs.RankedLegs.{unranked-less}
@@ -81,28 +81,28 @@ buses-none count ms k lt =
     let e : count + 1 - k ≡ 0 = omega arith in
     ap (λ n. map (net_legs ms) (numbers_from k n)) e
 
-first-none : (cs : List Leg) → first_of cs ≡ None → length cs ≡ 0
+first-none : (cs : List Leg) → head_of cs ≡ None → length cs ≡ 0
 first-none [] e = refl
 first-none (c ∷ cs) e = grind arith
 
-no_candidates : (net : Net) (p : Delays) (l : List Leg) → first_of (candidates net p l) ≡ None → l ≡ []
+no_candidates : (net : Net) (p : Delays) (l : List Leg) → head_of (candidates net p l) ≡ None → l ≡ []
 no_candidates net p [] e = refl
 no_candidates net p (y ∷ l) e = absurd (omega (arith, candidates-count net p (y ∷ l), first-none (candidates net p (y ∷ l)) e))
 
-or_next-open : (net : Net) (p : Delays) (l k : List Leg) (x : Leg) → first_of (candidates net p l) ≡ Some x → or_next l k ≡ l
+or_next-open : (net : Net) (p : Delays) (l k : List Leg) (x : Leg) → head_of (candidates net p l) ≡ Some x → or_next l k ≡ l
 or_next-open net p [] k x e = grind arith
 or_next-open net p (y ∷ l) k x e = refl
 
 module _ (count : ℕ) (ms : List Message) (rs : List Ranked) (k : ℕ) (net : Net) (p : Delays) (within : k ≤ count) where
   -- no leg of the bus is left to test
-  pub bus_full : first_of (candidates net p (filter (unranked rs) (net_legs ms k))) ≡ None →
+  pub bus_full : head_of (candidates net p (filter (unranked rs) (net_legs ms k))) ≡ None →
       first_open rs (buses_from count ms k) ≡ first_open rs (buses_from count ms (k + 1))
   bus_full e =
       ap (first_open rs) (buses-more count ms k within)
       ∙ ap (λ (l : List Leg). or_next l (first_open rs (buses_from count ms (k + 1)))) (no_candidates net p _ e)
 
   -- one is
-  pub bus_open : (x : Leg) → first_of (candidates net p (filter (unranked rs) (net_legs ms k))) ≡ Some x →
+  pub bus_open : (x : Leg) → head_of (candidates net p (filter (unranked rs) (net_legs ms k))) ≡ Some x →
       first_open rs (buses_from count ms k) ≡ filter (unranked rs) (net_legs ms k)
   bus_open x e = ap (first_open rs) (buses-more count ms k within) ∙ or_next-open net p (filter (unranked rs) (net_legs ms k)) _ x e
 

@@ -12,7 +12,7 @@ use Rattle.search.specs.Stored.{
   tests_at,
   testing,
   complete,
-  first_of,
+  head_of,
   resume,
   but_for,
   retract,
@@ -39,12 +39,12 @@ module _ (count : ℕ) (ms : List Message) (rs : List Ranked) (k : placed (layou
   open_on-board = open-as_stored (layout count ms) (buses-apart ms 1 count) rs k
 
   upwards-found : (l : List Leg) (x : Leg) → first_open rs (layout count ms).buses ≡ l →
-      first_of (candidates (layout count ms) (stored rs) l) ≡ Some x →
+      head_of (candidates (layout count ms) (stored rs) l) ≡ Some x →
       upwards (layout count ms) rs (place_of (layout count ms) rs).open' ≡ testing rs x
   upwards-found [] x e f = grind arith
   upwards-found (y ∷ l) x e f =
-      let first : first_of (tests_at (layout count ms) rs) ≡ Some x =
-      ap first_of (tests-as_stored (layout count ms) (buses-apart ms 1 count) rs k ∙ ap (candidates (layout count ms) (stored rs)) e) ∙ f in
+      let first : head_of (tests_at (layout count ms) rs) ≡ Some x =
+      ap head_of (tests-as_stored (layout count ms) (buses-apart ms 1 count) rs k ∙ ap (candidates (layout count ms) (stored rs)) e) ∙ f in
       ap (upwards (layout count ms) rs) (open_on-board ∙ e)
       ∙ ap (λ (o : Option Leg). resume rs o (retract (layout count ms) rs)) first
 
@@ -52,13 +52,13 @@ module _ (count : ℕ) (ms : List Message) (rs : List Ranked) (k : placed (layou
   -- past the last bus there is none.
   module _ (bus : ℕ) (so : first_open rs (layout count ms).buses ≡ first_open rs (buses_from count ms bus)) where
     pub up_here : bus ≤ count → (x : Leg) →
-        Some x ≡ first_of (candidates (layout count ms) (stored rs) (filter (unranked rs) (net_legs ms bus))) →
+        Some x ≡ head_of (candidates (layout count ms) (stored rs) (filter (unranked rs) (net_legs ms bus))) →
         Some (testing rs x) ≡ Some (upwards (layout count ms) rs (place_of (layout count ms) rs).open')
     up_here within x first =
         let here = so ∙ bus_open count ms rs bus (layout count ms) (stored rs) within x (sym first) in
         ap (λ (w : Stage). Some w) (sym (upwards-found (filter (unranked rs) (net_legs ms bus)) x here (sym first)))
 
-    pub up_later : bus ≤ count → None ≡ first_of (candidates (layout count ms) (stored rs) (filter (unranked rs) (net_legs ms bus))) →
+    pub up_later : bus ≤ count → None ≡ head_of (candidates (layout count ms) (stored rs) (filter (unranked rs) (net_legs ms bus))) →
         first_open rs (layout count ms).buses ≡ first_open rs (buses_from count ms (bus + 1))
     up_later within none = so ∙ bus_full count ms rs bus (layout count ms) (stored rs) within (sym none)
 
@@ -81,9 +81,9 @@ module _ (count : ℕ) (ms : List Message) (rs : List Ranked) (k : placed (layou
 
     -- x was tested, and does not fit
     pub try_next : try_at (layout count ms) rs x None
-        ≡ resume rs (first_of (behind x (candidates (layout count ms) (stored rs) (filter (unranked rs) (net_legs ms x.bus)))))
+        ≡ resume rs (head_of (behind x (candidates (layout count ms) (stored rs) (filter (unranked rs) (net_legs ms x.bus)))))
         (retract (layout count ms) rs)
-    try_next = at-leg (λ p l. resume rs (first_of (behind x (candidates (layout count ms) p l))) (retract (layout count ms) rs))
+    try_next = at-leg (λ p l. resume rs (head_of (behind x (candidates (layout count ms) p l))) (retract (layout count ms) rs))
 
 -- the ranking of r is taken back
 pub retract-next : (count : ℕ) (ms : List Message) (r : Ranked) (rs : List Ranked) → placed (layout count ms) (r ∷ rs) ≡ true →
@@ -91,6 +91,6 @@ pub retract-next : (count : ℕ) (ms : List Message) (r : Ranked) (rs : List Ran
     ≡ resume rs (after_ranked (layout count ms) rs (filter (unranked rs) (net_legs ms r.leg.bus)) r.leg) (retract (layout count ms) rs)
 retract-next count ms r rs k =
     let net = layout count ms in
-    but_for-resume (ready net (place_of net rs).delays r.leg) rs (first_of (behind r.leg (tests_at net rs))) (retract net rs)
+    but_for-resume (ready net (place_of net rs).delays r.leg) rs (head_of (behind r.leg (tests_at net rs))) (retract net rs)
     ∙ at-leg count ms rs (placed_below net r rs k) r.leg (was_open net r rs k)
-    (λ p l. resume rs (cond (ready net p r.leg) None (first_of (behind r.leg (candidates net p l)))) (retract net rs))
+    (λ p l. resume rs (cond (ready net p r.leg) None (head_of (behind r.leg (candidates net p l)))) (retract net rs))

@@ -20,13 +20,13 @@ module _ (count : ℕ) (ms : List Message) (rs : List Ranked) (s : Spot) (h : st
 
   -- o is tested next, or where there is none the latest ranking is taken back; w is what is reached
   pub passed : (o : Option Leg) →
-      o ≡ walk.first_of (walk.behind (spot_leg s) (candidates (layout count ms) (walk.stored (ranked_of seen)) (open_legs ms seen s.bus))) →
+      o ≡ walk.head_of (walk.behind (spot_leg s) (candidates (layout count ms) (walk.stored (ranked_of seen)) (open_legs ms seen s.bus))) →
       (w : Option walk.Stage) → w ≡ Some (walk.resume (ranked_of rs) o (walk.retract (layout count ms) (ranked_of rs))) →
       w ≡ Some (walk.try_at (layout count ms) (ranked_of rs) (spot_leg s) None)
   passed o next w is =
-      let there : o ≡ walk.first_of (walk.behind (spot_leg s) (candidates (layout count ms) (walk.stored (ranked_of rs)) (open_legs ms rs s.bus))) =
+      let there : o ≡ walk.head_of (walk.behind (spot_leg s) (candidates (layout count ms) (walk.stored (ranked_of rs)) (open_legs ms rs s.bus))) =
       next
-      ∙ ap (λ (v : List Ranked). walk.first_of (walk.behind (spot_leg s) (candidates (layout count ms) (walk.stored (ranked_of v)) (open_legs ms v s.bus))))
+      ∙ ap (λ (v : List Ranked). walk.head_of (walk.behind (spot_leg s) (candidates (layout count ms) (walk.stored (ranked_of v)) (open_legs ms v s.bus))))
       same in
       is ∙ ap (λ (x : Option Leg). Some (walk.resume (ranked_of rs) x (walk.retract (layout count ms) (ranked_of rs)))) there
       ∙ ap (λ (v : walk.Stage). Some v)

@@ -5,7 +5,7 @@ use Rattle.bus.specs.Rules.{Meaning}
 use Rattle.bus.specs.declared.message.Message.{Message}
 use Rattle.search.specs.Lists.{every}
 use Rattle.search.specs.Net.{Leg, has}
-use Rattle.search.specs.Stored.{stored, behind, first_of, first_by, or_first}
+use Rattle.search.specs.Stored.{stored, behind, head_of, first_by, or_first}
 use Rattle.search.specs.Walk.{partnered, candidates}
 use Rattle.search.proofs.Candidate.{first-candidate, next-after_ready, next-after_unready}
 use Rattle.boards.specs.Boards.{board_of, message_of, rising_messages}
@@ -27,7 +27,7 @@ module _ (rules : List Meaning) (gateway : ℕ) (ms : List Message) (rises : ris
   from_start b = ap (first_by (ready_is b rs (flat_map pairs_of ms))) (sym (all_above rs bus 0 0 ms (omega arith) rises))
 
   pub first-tested :
-      first_of (candidates (net_of (board_of rules gateway ms)) (stored (ranked_of rs)) (open_legs ms rs bus))
+      head_of (candidates (net_of (board_of rules gateway ms)) (stored (ranked_of rs)) (open_legs ms rs bus))
       ≡ or_first (next_such ms rs bus 0 true) (next_such ms rs bus 0 false)
   first-tested =
       first-candidate (net_of (board_of rules gateway ms)) (stored (ranked_of rs)) (open_legs ms rs bus)
@@ -40,7 +40,7 @@ module _ (rules : List Meaning) (gateway : ℕ) (ms : List Message) (rises : ris
 
     -- after a ready leg
     pub tested-after_ready : every (partnered (stored (ranked_of rs)) (leg_at bus m.number)) (pairs_of m) ≡ true →
-        first_of (behind (leg_at bus m.number) (candidates (net_of (board_of rules gateway ms)) (stored (ranked_of rs)) (open_legs ms rs bus)))
+        head_of (behind (leg_at bus m.number) (candidates (net_of (board_of rules gateway ms)) (stored (ranked_of rs)) (open_legs ms rs bus)))
         ≡ or_first (next_such ms rs bus m.number true) (next_such ms rs bus 0 false)
     tested-after_ready own =
         next-after_ready (net_of (board_of rules gateway ms)) (stored (ranked_of rs)) (open_legs ms rs bus) (leg_at bus m.number) open'
@@ -49,7 +49,7 @@ module _ (rules : List Meaning) (gateway : ℕ) (ms : List Message) (rises : ris
 
     -- after one that is not ready
     pub tested-after_unready : every (partnered (stored (ranked_of rs)) (leg_at bus m.number)) (pairs_of m) ≡ false →
-        first_of (behind (leg_at bus m.number) (candidates (net_of (board_of rules gateway ms)) (stored (ranked_of rs)) (open_legs ms rs bus)))
+        head_of (behind (leg_at bus m.number) (candidates (net_of (board_of rules gateway ms)) (stored (ranked_of rs)) (open_legs ms rs bus)))
         ≡ next_such ms rs bus m.number false
     tested-after_unready own =
         next-after_unready (net_of (board_of rules gateway ms)) (stored (ranked_of rs)) (open_legs ms rs bus) (leg_at bus m.number)

@@ -55,7 +55,7 @@ Placed ms rs = (count : ℕ) × (walk.placed (layout count ms) (ranked_of rs) �
 
 -- the leg tested after x, once its ranking above the others is taken back, where l were open; none where x was ready
 abbrev pub after_ranked : Net → List walk.Ranked → List Leg → Leg → Option Leg
-after_ranked net rs l x = cond (ready net (walk.stored rs) x) None (walk.first_of (walk.behind x (candidates net (walk.stored rs) l)))
+after_ranked net rs l x = cond (ready net (walk.stored rs) x) None (walk.head_of (walk.behind x (candidates net (walk.stored rs) l)))
 
 -- how far the walk has come
 abbrev pub progress_by : Stage → Progress

@@ -3,7 +3,7 @@ ghost use Rattle.std.specs.Prelude.{◌≡◌, ℕ, true, ◌&&◌, List, Some, 
 ghost use Rattle.std.specs.Option.{option_map};
 ghost use Rattle.bus.specs.Rules.{Meaning};
 ghost use Rattle.search.specs.Net.{has};
-ghost use Rattle.search.specs.Stored.{stored, behind, first_of};
+ghost use Rattle.search.specs.Stored.{stored, behind, head_of};
 ghost use Rattle.search.specs.Walk.{candidates};
 ghost use Rattle.boards.specs.Boards.{board_of, message_of, rising_messages};
 ghost use Rattle.boards.specs.Nets.{leg_at, net_of, pairs_of};
@@ -39,7 +39,7 @@ fn next_such(messages: &[Message], ranked: &[Ranked], bus: u8, after: u8, ready:
 // The first leg to be tested at the lowest free rank of the bus.
 pub(crate) fn first_candidate(messages: &[Message], ranked: &[Ranked], bus: u8) -> Option<u8>
     requires { rising_messages messages.now ≡ true }
-    ensures { (rules : List Meaning) (gateway : ℕ) → option_map (leg_at bus) result ≡ first_of (candidates (net_of (board_of rules gateway messages.now)) (stored (ranked_of ranked.now)) (open_legs messages.now ranked.now bus)) }
+    ensures { (rules : List Meaning) (gateway : ℕ) → option_map (leg_at bus) result ≡ head_of (candidates (net_of (board_of rules gateway messages.now)) (stored (ranked_of ranked.now)) (open_legs messages.now ranked.now bus)) }
 {
     match next_such(messages, ranked, bus, 0, true) {
         Some(number) => Some(number),
@@ -57,7 +57,7 @@ pub(crate) fn next_candidate(
     requires rises { rising_messages messages.now ≡ true }
     requires listed { message_of messages.now message.number ≡ Some message }
     requires open { has (leg_at bus message.number) (open_legs messages.now ranked.now bus) ≡ true }
-    ensures { (rules : List Meaning) (gateway : ℕ) → option_map (leg_at bus) result ≡ first_of (behind (leg_at bus message.number) (candidates (net_of (board_of rules gateway messages.now)) (stored (ranked_of ranked.now)) (open_legs messages.now ranked.now bus))) }
+    ensures { (rules : List Meaning) (gateway : ℕ) → option_map (leg_at bus) result ≡ head_of (behind (leg_at bus message.number) (candidates (net_of (board_of rules gateway messages.now)) (stored (ranked_of ranked.now)) (open_legs messages.now ranked.now bus))) }
 {
     if !is_ready(ranked, message, bus) {
         return next_such(messages, ranked, bus, message.number, false);

@@ -3,7 +3,7 @@ ghost use Rattle.std.specs.Prelude.{◌≡◌, ℕ, ◌≤◌, true, map, length
 ghost use Rattle.std.specs.Option.{option_map};
 ghost use Rattle.search.specs.Net.{has};
 ghost use Rattle.search.specs.Walk.{candidates, fit};
-ghost use Rattle.search.specs.Stored.{behind, first_of, first_open, place_of, placed, retract as retracted, stored, testing, try_at, try_once, try_up_to, upwards};
+ghost use Rattle.search.specs.Stored.{behind, head_of, first_open, place_of, placed, retract as retracted, stored, testing, try_at, try_once, try_up_to, upwards};
 ghost use Rattle.boards.specs.Boards.{board_of, rising_messages};
 ghost use Rattle.boards.specs.Nets.{leg_at, net_of};
 ghost use Rattle.planner.specs.Storage.{ranked_of, open_legs};
@@ -56,7 +56,7 @@ fn after_ranked(messages: &[Message], ranked: &[Ranked], bus: u8, number: u8) ->
 fn after_tested(messages: &[Message], ranked: &[Ranked], bus: u8, number: u8) -> Option<u8>
     requires rises { rising_messages messages.now ≡ true }
     requires open { has (leg_at bus number) (open_legs messages.now ranked.now bus) ≡ true }
-    ensures { (count : ℕ) → option_map (leg_at bus) result ≡ first_of (behind (leg_at bus number) (candidates (layout count messages.now) (stored (ranked_of ranked.now)) (open_legs messages.now ranked.now bus))) }
+    ensures { (count : ℕ) → option_map (leg_at bus) result ≡ head_of (behind (leg_at bus number) (candidates (layout count messages.now) (stored (ranked_of ranked.now)) (open_legs messages.now ranked.now bus))) }
 {
     match find(messages, number) {
         Some(message) => next_candidate(messages, ranked, bus, message),

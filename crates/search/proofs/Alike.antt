@@ -16,7 +16,7 @@ use Rattle.search.specs.Stored.{
   testing,
   complete,
   exhausted,
-  first_of,
+  head_of,
   resume,
   but_for,
   retract,
@@ -62,11 +62,11 @@ module _ (net other : Net) (buses : net.buses ≡ other.buses) (pairs : net.pair
   same-retract [] = refl
   same-retract (r ∷ rs) =
       let b = same-retract rs in
-      λ i. but_for (same-ready rs r.leg i) (b i) (resume rs (first_of (behind r.leg (same_tests rs i))) (b i))
+      λ i. but_for (same-ready rs r.leg i) (b i) (resume rs (head_of (behind r.leg (same_tests rs i))) (b i))
 
   pub same-upwards : (rs : List Ranked) (l : List Leg) → upwards net rs l ≡ upwards other rs l
   same-upwards rs [] = refl
-  same-upwards rs (y ∷ l) = λ i. resume rs (first_of (same_tests rs i)) (same-retract rs i)
+  same-upwards rs (y ∷ l) = λ i. resume rs (head_of (same_tests rs i)) (same-retract rs i)
 
   same_up : (rs : List Ranked) → upwards net rs (place_of net rs).open' ≡ upwards other rs (place_of other rs).open'
   same_up rs = same-upwards rs (place_of net rs).open' ∙ ap (upwards other rs) (same-open rs)
@@ -76,5 +76,5 @@ module _ (net other : Net) (buses : net.buses ≡ other.buses) (pairs : net.pair
 
   -- where the test of c has come to the same
   pub same-try : (rs : List Ranked) (c : Leg) (o : Option ℕ) → try_at net rs c o ≡ try_at other rs c o
-  same-try rs c None = λ i. resume rs (first_of (behind c (same_tests rs i))) (same-retract rs i)
+  same-try rs c None = λ i. resume rs (head_of (behind c (same_tests rs i))) (same-retract rs i)
   same-try rs c (Some d) = same_up (record { leg = c; delay = d } ∷ rs)

@@ -12,7 +12,7 @@ use Rattle.search.specs.Stored.{
   testing,
   complete,
   exhausted,
-  first_of,
+  head_of,
   resume,
   but_for,
   retract,
@@ -40,13 +40,13 @@ tests-open net rs x h = sym (has-candidates net (place_of net rs).delays x (plac
 -- k holds of the ranked legs below each ranked leg, and of them with a leg more that was open
 module _ (net : Net) (k : List Ranked → Bool) (below : (r : Ranked) (rs : List Ranked) → k (r ∷ rs) ≡ true → k rs ≡ true) where
   resume-kept : (rs : List Ranked) (cs : List Leg) (b : Stage) → k rs ≡ true →
-      ((x : Leg) → has x cs ≡ true → has x (tests_at net rs) ≡ true) → standing net k b ≡ true → standing net k (resume rs (first_of cs) b) ≡ true
+      ((x : Leg) → has x cs ≡ true → has x (tests_at net rs) ≡ true) → standing net k b ≡ true → standing net k (resume rs (head_of cs) b) ≡ true
   resume-kept rs [] b h among e = e
   resume-kept rs (c ∷ cs) b h among e =
       and_from (has c (place_of net rs).open') (k rs) (tests-open net rs c (among c (or_left (same c c) (has c cs) (same-itself c)))) h
 
   resume-behind_kept : (rs : List Ranked) (c : Leg) (b : Stage) → k rs ≡ true → standing net k b ≡ true →
-      standing net k (resume rs (first_of (behind c (tests_at net rs))) b) ≡ true
+      standing net k (resume rs (head_of (behind c (tests_at net rs))) b) ≡ true
   resume-behind_kept rs c b h e = resume-kept rs (behind c (tests_at net rs)) b h (λ x m. behind-has c x (tests_at net rs) m) e
 
   but_for-kept : (t : Bool) (b s : Stage) → standing net k b ≡ true → standing net k s ≡ true → standing net k (but_for t b s) ≡ true

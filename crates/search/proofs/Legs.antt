@@ -1,4 +1,4 @@
--- Laws of legs and of lists of legs: `same` is true exactly on equal legs; what `has` says of the lists that `less`, `kept_by` and
+-- Laws of legs and of lists of legs: `same` is true exactly on equal legs; what `has` says of the lists that `less`, `filter` and
 -- `candidates` make.
 use Rattle.std.proofs.Common.{◌≡◌, ◌<◌, ◌≤◌, Bool, true, false, not, ◌&&◌, ◌||◌, eqb, ◌⊎◌, List, [], ◌∷◌, ◌++◌, length, refl, inl, inr, arith}
 use Rattle.std.specs.List.{filter}

@@ -19,7 +19,7 @@ use Rattle.search.specs.Stored.{
   testing,
   complete,
   exhausted,
-  first_of,
+  head_of,
   resume,
   but_for,
   retract,
@@ -117,7 +117,7 @@ Behind ts [] = Unit {0}
 Behind ts (c ∷ cs) = behind c ts ≡ cs
 
 resume-state : (net : Net) (rs : List Ranked) (cs : List Leg) (s : Stage) (b : State) → Behind (tests_at net rs) cs →
-    state_of net s ≡ b → state_of net (resume rs (first_of cs) s) ≡ go_on_at (place_of net rs) cs b
+    state_of net s ≡ b → state_of net (resume rs (head_of cs) s) ≡ go_on_at (place_of net rs) cs b
 resume-state net rs [] s b h e = e
 resume-state net rs (c ∷ cs) s b h e = ap (λ (v : List Leg). go_on_at (place_of net rs) (c ∷ v) b) h
 
@@ -152,7 +152,7 @@ module _ (net : Net) (once : Distinct net) where
       let at = place_of net rs in
       let cs = behind r.leg (tests_at net rs) in
       let back = retract-state rs in
-      but_for-state net (ready net at.delays r.leg) (retract net rs) (resume rs (first_of cs) (retract net rs)) _ _ back
+      but_for-state net (ready net at.delays r.leg) (retract net rs) (resume rs (head_of cs) (retract net rs)) _ _ back
       (resume-state net rs cs (retract net rs) _ (behind-tests r.leg rs) back)
       ∙ sym (back_advances net (filled_by net at r.leg ∷ at.frames) (put at.delays r.leg (Some r.delay))
       (less r.leg at.open') at.later)

@@ -66,9 +66,9 @@ pub data Stage : Type 0 where
   complete : List Ranked → Stage
   exhausted : Stage
 
-abbrev pub first_of : List Leg → Option Leg
-first_of [] = None
-first_of (x ∷ l) = Some x
+abbrev pub head_of : List Leg → Option Leg
+head_of [] = None
+head_of (x ∷ l) = Some x
 
 -- testing goes on with a leg, and with b where there is none
 abbrev pub resume : List Ranked → Option Leg → Stage → Stage
@@ -84,16 +84,16 @@ abbrev pub retract : Net → List Ranked → Stage
 retract net [] = exhausted
 retract net (r ∷ rs) =
     let b = retract net rs in
-    but_for (ready net (place_of net rs).delays r.leg) b (resume rs (first_of (behind r.leg (tests_at net rs))) b)
+    but_for (ready net (place_of net rs).delays r.leg) b (resume rs (head_of (behind r.leg (tests_at net rs))) b)
 
 -- the first test above the ranked legs, where these legs are open
 abbrev pub upwards : Net → List Ranked → List Leg → Stage
 upwards net rs [] = complete rs
-upwards net rs (y ∷ l) = resume rs (first_of (tests_at net rs)) (retract net rs)
+upwards net rs (y ∷ l) = resume rs (head_of (tests_at net rs)) (retract net rs)
 
 -- c was tested, and fits with a delay or not
 abbrev pub try_at : Net → List Ranked → Leg → Option ℕ → Stage
-try_at net rs c None = resume rs (first_of (behind c (tests_at net rs))) (retract net rs)
+try_at net rs c None = resume rs (head_of (behind c (tests_at net rs))) (retract net rs)
 try_at net rs c (Some d) =
     let up : List Ranked = record { leg = c; delay = d } ∷ rs in
     upwards net up (place_of net up).open'
