@@ -29,8 +29,9 @@ returns g c =
     let gateway = c.args.gateway in
     let f = g.R.BusRule.answer in
     let few : length rules ≤ 8 = omega arith in
+    let within : gateway ≤ 1000000000 = omega arith in
     let fault : make_fault (length rules) gateway ≡ None =
-    make_accepted (length rules) gateway c.if-rules-lt1.false few c.if-gateway-gt1000000000.false
+    make_accepted (length rules) gateway c.if-rules-lt1.false few within
     in
     let stands : begun f rules gateway (vec_items c.clear.new.self) ≡ fresh (board_of (map f rules) gateway []) =
     ap (begun f rules gateway) c.clear.ensures.items ∙ begun_fresh f rules gateway []
