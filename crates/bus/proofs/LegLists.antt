@@ -1,15 +1,16 @@
 -- The steps of loops over legs and over messages.
-use Rattle.std.proofs.Common.{◌≡◌, ℕ, ◌+◌, ◌<◌, ◌≤◌, cond, eqb, List, ◌∷◌, ◌++◌, length, get_or, drop, Some, sym, ap, ◌∙◌, append_assoc, append-nil}
+use Rattle.std.proofs.Common.{◌≡◌, ℕ, ◌+◌, ◌<◌, ◌≤◌, cond, ◌==◌, List, [], ◌∷◌, ◌++◌, length, get_or, drop, Some, refl, sym, ap, ◌∙◌, append_assoc, append-nil}
 use Rattle.std.proofs.lemmas.List.{drop_more, drop_all}
 use Rattle.std.specs.Option.{option_to_list}
+use Rattle.std.specs.List.{find}
 use Rattle.bus.specs.Legs.{leg_on, legs_on, leg_of}
 use Rattle.bus.specs.declared.leg.Leg.{Leg}
 use Rattle.bus.specs.declared.message.Message.{Message}
 
-pub leg_of-more : (xs : List Leg) (i : ℕ) (x : Leg) (n : ℕ) → i < length xs → x ≡ get_or xs i x →
-    leg_of (drop i xs) n ≡ cond (eqb x.message.number n) (Some x) (leg_of (drop (i + 1) xs) n)
-leg_of-more xs i x n within read =
-    ap (λ l. leg_of l n) (drop_more xs i x within) ∙ ap (λ y. leg_of (y ∷ drop (i + 1) xs) n) (sym read)
+-- the leg of a message is the first that has its number
+pub find_leg : (xs : List Leg) (n : ℕ) → find (λ x. x.message.number == n) xs ≡ leg_of xs n
+find_leg [] n = refl
+find_leg (x ∷ xs) n = ap (λ o. cond (x.message.number == n) (Some x) o) (find_leg xs n)
 
 pub legs_on-more : (ms : List Message) (i : ℕ) (m : Message) (bus : ℕ) → i < length ms → m ≡ get_or ms i m →
     legs_on (drop i ms) bus ≡ option_to_list (leg_on m bus) ++ legs_on (drop (i + 1) ms) bus

@@ -1,9 +1,11 @@
 -- What a set of bits has: nothing where it is 0, what either part of an `or` has, and one number where it is a power of two.
-use Rattle.std.proofs.Common.{◌≡◌, ℕ, ◌+◌, ◌-◌, ◌*◌, ◌/◌, ◌%◌, ◌^◌, ◌<◌, ◌≤◌, Bool, true, false, ◌&&◌, ◌||◌, eqb, ltb, leb, ◌⊎◌, sym, refl, ap, ◌∙◌, inl, inr, ⊎_elim, mul-div_cancel, arith, pow_mono}
+use Rattle.std.proofs.Common.{◌≡◌, ℕ, ◌+◌, ◌-◌, ◌*◌, ◌/◌, ◌%◌, ◌^◌, ◌<◌, ◌≤◌, true, false, ◌&&◌, ◌||◌, eqb, ltb, ◌⊎◌, sym, refl, ap, ◌∙◌, inl, inr, ⊎_elim, mul-div_cancel, arith, pow_mono}
 use native.Mathlib.Nat.{zero-div, div-eq_of_lt, div_self, mul-mod_left}
 use lib.Bits.{bit_and, bit_or}
 use Rattle.std.proofs.lemmas.Nat.{or_shr, or_mod, pow-add, pow_pos, pow_below, one_shl, and_mask}
-use Rattle.std.proofs.lemmas.Bool.{eq-eqb, ne_eqb, cases_order, cases_lt, cases_eq, lt-ltb, le-ltb, le-leb, and_from, and_right}
+use Rattle.std.proofs.lemmas.Bool.{eq-eqb, ne_eqb, cases_order, cases_lt, cases_eq, lt-ltb, le-ltb, and_right}
+use Rattle.std.proofs.lemmas.Bool.Decides.{nat_tests}
+use Rattle.std.proofs.Math.Bool.{or_comm, and-or_distrib_left}
 use Rattle.bus.specs.Numbered.{member}
 use Rattle.bus.specs.Range.{inside, numbers}
 
@@ -31,16 +33,12 @@ bit x = ⊎_elim (λ h. inl (omega arith)) (λ h. inr (omega arith)) (cases_lt (
 low_or : (x y : ℕ) → eqb (bit_or x y % 2) 1 ≡ (eqb (x % 2) 1 || eqb (y % 2) 1)
 low_or x y = ap (λ z. eqb z 1) (or_mod x y 1) ∙ or_bit (x % 2) (y % 2) (bit x) (bit y)
 
-and_or : (a b c : Bool) → (a && (b || c)) ≡ (a && b || a && c)
-and_or true b c = refl
-and_or false b c = refl
-
 pub member-or : (a b k : ℕ) → member (bit_or a b) k ≡ (member a k || member b k)
 unfolding member
 member-or a b k =
     ap (λ z. ltb 0 k && eqb (z % 2) 1) (or_shr a b (k - 1))
     ∙ ap (λ z. ltb 0 k && z) (low_or (a / 2 ^ (k - 1)) (b / 2 ^ (k - 1)))
-    ∙ and_or (ltb 0 k) _ _
+    ∙ and-or_distrib_left (ltb 0 k) _ _
 
 -- the bit of value 2 ^ i, at the places i, below and above
 bit_at : (i j : ℕ) → (i ≡ j) ⊎ ((i < j) ⊎ (j < i)) → eqb (2 ^ i / 2 ^ j % 2) 1 ≡ eqb i j
@@ -71,12 +69,6 @@ member-one n k h =
     (λ (g : k ≤ 0). ap (λ z. z && eqb (2 ^ (n - 1) / 2 ^ (k - 1) % 2) 1) (le-ltb 0 k g) ∙ sym (ne_eqb k n (omega arith)))
     (cases_lt 0 k)
 
-or_swap : (a b : Bool) → (a || b) ≡ (b || a)
-or_swap true true = refl
-or_swap true false = refl
-or_swap false true = refl
-or_swap false false = refl
-
 -- the test of a program: a shift and a mask
 pub member-shifted : (bits k : ℕ) → 0 < k → eqb (bit_and (bits / 2 ^ (k - 1)) 1) 1 ≡ member bits k
 unfolding member
@@ -84,17 +76,24 @@ member-shifted bits k h =
     ap (λ z. eqb z 1) (and_mask (bits / 2 ^ (k - 1)) 1) ∙ sym (ap (λ z. z && eqb (bits / 2 ^ (k - 1) % 2) 1) (lt-ltb 0 k h))
 
 -- a set of 64 bits has only numbers from 1 to 64
-pub member-outside : (bits k : ℕ) → bits < 2 ^ 64 → (k < 1) ⊎ ((1 ≤ k) × (64 < k)) → false ≡ member bits k
+pub member-outside : (bits k : ℕ) → bits < 2 ^ 64 → inside numbers k ≡ false → member bits k ≡ false
 unfolding member
-member-outside bits k h (inl g) = sym (ap (λ z. z && eqb (bits / 2 ^ (k - 1) % 2) 1) (le-ltb 0 k (omega arith)))
-member-outside bits k h (inr g) = sym (member-above 64 bits k h g.1)
+member-outside bits k h out =
+    ⊎_elim
+    (λ (g : 64 < k). member-above 64 bits k h g)
+    (λ (g : k ≤ 64). ap (λ z. z && eqb (bits / 2 ^ (k - 1) % 2) 1) (le-ltb 0 k (grind (arith, nat_tests))))
+    (cases_lt 64 k)
+
+pub number_above-zero : (n : ℕ) → inside numbers n ≡ true → 0 < n
+number_above-zero n h = grind (arith, nat_tests)
 
 -- the set that a program makes with the number n
-pub member-with : (bits n k : ℕ) → 1 ≤ n → n ≤ 64 → member (bit_or bits ((1 * 2 ^ (n - 1)) % 2 ^ 64)) k ≡ (inside numbers n && eqb k n || member bits k)
-member-with bits n k g h =
-    let low : (leb 1 n && leb n 64) ≡ true = and_from _ _ (le-leb 1 n g) (le-leb n 64 h) in
+pub member-with : (bits n k : ℕ) → inside numbers n ≡ true →
+    member (bit_or bits ((1 * 2 ^ (n - 1)) % 2 ^ 64)) k ≡ (inside numbers n && eqb k n || member bits k)
+member-with bits n k low =
+    let at_most : n ≤ 64 = grind (arith, nat_tests) in
     member-or bits ((1 * 2 ^ (n - 1)) % 2 ^ 64) k
     ∙ ap (λ z. member bits k || member z k) (one_shl (n - 1) 64 (omega arith))
-    ∙ ap (λ z. member bits k || z) (member-one n k g)
-    ∙ or_swap (member bits k) (eqb k n)
+    ∙ ap (λ z. member bits k || z) (member-one n k (number_above-zero n low))
+    ∙ or_comm (member bits k) (eqb k n)
     ∙ sym (ap (λ z. z && eqb k n || member bits k) low)

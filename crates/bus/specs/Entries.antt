@@ -1,5 +1,5 @@
 -- Which values make a message, and what is refused else.
-use Rattle.std.specs.Prelude.{◌≡◌, Bool, cond, ◌&&◌, Some, None, Option}
+use Rattle.std.specs.Prelude.{◌≡◌, Bool, cond, ◌&&◌, Some, None, Option, Result, MatchResult}
 use Rattle.bus.specs.Numbered.{member}
 use Rattle.bus.specs.Range.{inside, numbers, buses, payloads, periods, deadlines, jitters}
 use Rattle.bus.specs.declared.entry.Entry.{Entry}
@@ -26,3 +26,7 @@ pub record Holds (e : Entry) (m : Message) : Type 0 where
   pub period : m.period ≡ e.period
   pub deadline : m.deadline ≡ e.deadline
   pub jitter : m.jitter ≡ e.jitter
+
+-- the message with the values that were given, or what is refused of them
+abbrev pub Makes : Entry → Result Message Refusal → Type 0
+Makes e r = MatchResult r (λ m. (entry_fault e ≡ None) × Holds e m) (λ f. entry_fault e ≡ Some f)

@@ -2,7 +2,7 @@
 ghost use Rattle.std.specs.Prelude.{ℕ};
 ghost use Rattle.bus.specs.Range.{In, bridge_times};
 
-#[derive(Drop)]
+#[derive(PartialEq, Eq, Debug, Drop)]
 pub struct Bridge<R> {
     pub inner: R,
     pub extra: u64,

@@ -35,12 +35,8 @@ impl<R: BusRule> BusRule for Bridge<R> {
     ghost shorter = { λ s. bridged-shorter s.extra (R.BusRule.answer s.inner) (R.BusRule.shorter s.inner) };
 
     fn delay(&self, legs: &[Leg], number: u8, above: LegSet) -> Option<u64> {
-        let Some(leg) = leg_of(legs, number) else {
-            return None;
-        };
-        let Some(delay) = self.inner.delay(legs, number, above) else {
-            return None;
-        };
+        let leg = leg_of(legs, number)?;
+        let delay = self.inner.delay(legs, number, above)?;
         timely(leg, delay.saturating_add(self.extra))
     }
 }

@@ -1,5 +1,5 @@
 // What a caller gives to make a message: plain numbers, of any value.
-#[derive(Clone, Copy)]
+#[derive(Clone, Copy, PartialEq, Eq, Debug)]
 pub struct Entry {
     pub number: u64,
     pub source: u64,

@@ -4,7 +4,7 @@ ghost use Rattle.bus.specs.Numbered.{member};
 ghost use Rattle.bus.specs.Range.{inside, numbers};
 
 // The number k, from 1 to 64, is the bit of value 2^(k-1).
-#[derive(Clone, Copy)]
+#[derive(Clone, Copy, PartialEq, Eq, Default, Debug)]
 pub struct LegSet {
     pub bits: u64,
 }
@@ -13,10 +13,7 @@ pub struct LegSet {
 pub(crate) fn has(bits: u64, number: u8) -> bool
     ensures { result ≡ member bits number }
 {
-    if number < 1 || number > 64 {
-        return false;
-    }
-    (bits >> (number - 1)) & 1 == 1
+    (1..=64).contains(&number) && (bits >> (number - 1)) & 1 == 1
 }
 
 impl LegSet {
@@ -36,7 +33,7 @@ impl LegSet {
     pub fn with(self, number: u8) -> LegSet
         ensures { (k : ℕ) → member result.bits k ≡ (inside numbers number && k == number || member self.bits k) }
     {
-        if number < 1 || number > 64 {
+        if !(1..=64).contains(&number) {
             return self;
         }
         LegSet {

@@ -6,7 +6,7 @@ ghost use Rattle.bus.specs.Range.{In, numbers, buses, periods, deadlines, jitter
 use crate::payload::Payload;
 
 // Times are whole nanoseconds. `destinations` is a set of buses as eight bits, bus k at the value 2^(k-1).
-#[derive(Clone, Copy)]
+#[derive(Clone, Copy, PartialEq, Eq, Debug)]
 pub struct Message {
     pub number: u8,
     pub source: u8,

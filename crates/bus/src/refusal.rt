@@ -2,48 +2,59 @@
 ghost use Rattle.std.specs.Prelude.{◌≡◌};
 ghost use Rattle.bus.specs.Refusals.{number_of};
 
-#[derive(Clone, Copy, PartialEq, Eq, Debug)]
+use std::error::Error;
+use std::fmt;
+
+#[derive(Clone, Copy, PartialEq, Eq, PartialOrd, Ord, Debug)]
 pub enum Refusal {
     // a line of a sheet breaks the form
-    Form,
+    Form = 1,
     // a count of buses, messages, lines or bytes is out of range
-    Count,
+    Count = 2,
     // a number is out of range
-    Range,
+    Range = 3,
     // a bus from 1 to 8 is not on the board
-    NoBus,
+    NoBus = 4,
     // the source is one of the destinations
-    SourceIsDestination,
+    SourceIsDestination = 5,
     // the number to enter is taken
-    Taken,
+    Taken = 6,
     // there is no such message, or it has no leg on that bus
-    NoLeg,
+    NoLeg = 7,
     // the board has no messages
-    NoMessages,
+    NoMessages = 8,
     // the walk has not ended with found
-    NotFound,
+    NotFound = 9,
     // fewer rows than needed, or too small a buffer
-    FewRows,
+    FewRows = 10,
     // the rows to check do not name every leg exactly once, by bus
-    WrongRows,
+    WrongRows = 11,
 }
 
 impl Refusal {
     pub fn number(self) -> u8
         ensures { result ≡ number_of self }
     {
-        match self {
-            Refusal::Form => 1,
-            Refusal::Count => 2,
-            Refusal::Range => 3,
-            Refusal::NoBus => 4,
-            Refusal::SourceIsDestination => 5,
-            Refusal::Taken => 6,
-            Refusal::NoLeg => 7,
-            Refusal::NoMessages => 8,
-            Refusal::NotFound => 9,
-            Refusal::FewRows => 10,
-            Refusal::WrongRows => 11,
-        }
+        self as u8
     }
 }
+
+impl fmt::Display for Refusal {
+    fn fmt<W: fmt::Write>(&self, f: &mut fmt::Formatter<W>) -> fmt::Result {
+        f.write_str(match self {
+            Refusal::Form => "a line breaks the form",
+            Refusal::Count => "a count is out of range",
+            Refusal::Range => "a number is out of range",
+            Refusal::NoBus => "the board has no such bus",
+            Refusal::SourceIsDestination => "the source is one of the destinations",
+            Refusal::Taken => "the message number is taken",
+            Refusal::NoLeg => "the message has no leg there",
+            Refusal::NoMessages => "the board has no messages",
+            Refusal::NotFound => "the search has not found an order",
+            Refusal::FewRows => "there is too little room",
+            Refusal::WrongRows => "the rows do not name every leg exactly once, by bus",
+        })
+    }
+}
+
+impl Error for Refusal {}

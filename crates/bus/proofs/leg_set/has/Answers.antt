@@ -1,8 +1,9 @@
-use Rattle.bus.proofs.Members.{member-outside, member-shifted}
+use Rattle.std.proofs.Common.{rules, ◌∙◌, sym}
+use Rattle.bus.proofs.Members.{member-outside, member-shifted, number_above-zero}
 use Rattle.bus.proofs.leg_set.has.Goals as goal
 
-pub returns-then-number-lt1 : goal.returns-then-number-lt1
-returns-then-number-lt1 c = member-outside c.args.bits c.args.number c.ranges.bits.fits c.then-number-lt1.either
+pub returns-then-contains : goal.returns-then-contains
+returns-then-contains c = member-shifted c.args.bits c.args.number (number_above-zero c.args.number (search rules))
 
-pub returns : goal.returns
-returns c = member-shifted c.args.bits c.args.number c.if-number-lt1.false
+pub returns-else-contains : goal.returns-else-contains
+returns-else-contains c = c.if-contains.false ∙ sym (member-outside c.args.bits c.args.number c.ranges.bits.fits (search rules))
