@@ -32,7 +32,9 @@ impl Message {
 pub fn leg_of(legs: &[Leg], number: u8) -> Option<Leg>
     ensures { result ≡ leg_of legs.now number }
 {
-    legs.iter().find(|leg| leg.message.number == number).copied()
+    legs.iter()
+        .find(|leg| leg.message.number == number)
+        .copied()
 }
 
 // A leg's delay, or over where it passes the leg's deadline.
