@@ -8,33 +8,25 @@ ghost use Rattle.boards.specs.Laws.{BoardLawful, LegsDistinct, LegsListed, LegsO
 use bus::rule::BusRule;
 
 // The net of every sound board is lawful, and so the theorems of the walk hold of it.
-pub fn board_law() -> u8
+pub fn board_law()
     ensures lawful { BoardLawful }
     ensures walk { WalkLawsHold }
-{
-    0
-}
+{}
 
 // What the lists of a board's net hold.
-pub fn board_lists() -> u8
+pub fn board_lists()
     ensures rise { LegsRise }
     ensures distinct { LegsDistinct }
     ensures listed { LegsListed }
     ensures whose { LegsOfMessages }
-{
-    0
-}
+{}
 
 // The boards of any rules that a caller lends, whatever their make, are sound, and the theorems of the walk hold of them.
-pub fn search_law<R: BusRule>(rules: &[R]) -> u8
+pub fn search_law<R: BusRule>(rules: &[R])
     ensures { WalkLawsOver (map (λ s. R.BusRule.answer s) rules.now) }
-{
-    0
-}
+{}
 
 // Some boards: that they are sound, their nets, and what their walks come to.
-pub fn example_boards() -> u8
+pub fn example_boards()
     ensures { ExampleBoards }
-{
-    0
-}
+{}

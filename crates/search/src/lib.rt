@@ -15,38 +15,30 @@ ghost use Rattle.search.specs.Machine.{EndedWhereNoTryIsLeft, OneTryLess, RunMak
 ghost use Rattle.search.specs.Stored.{CompleteHasItsOrders, EveryStageIsKept, FirstStageHasAll, FoundDelaysAreStored, OverWhereNoTryIsLeft, TriesMakeWhatIsLeft, TryIsAStep};
 
 // Where the walk ends with orders, they meet the net.
-pub fn found_meets() -> u8
+pub fn found_meets()
     ensures { FoundMeets }
-{
-    0
-}
+{}
 
 // Where the walk ends with none, no orders meet the net.
-pub fn none_meets() -> u8
+pub fn none_meets()
     ensures { NoneMeets }
-{
-    0
-}
+{}
 
 // The tries of a walk are at most the bound; where no message crosses, at most n(n+1)/2 added over the buses.
-pub fn within_bound() -> u8
+pub fn within_bound()
     ensures { WithinBound × WithinLocalBound }
-{
-    0
-}
+{}
 
 // A walk that stops and resumes makes the tries of the whole walk, and comes to its outcome.
-pub fn run_makes_what_is_left() -> u8
+pub fn run_makes_what_is_left()
     ensures start { StartHasAll }
     ensures step { OneTryLess }
     ensures run { RunMakesWhatIsLeft }
     ensures end { EndedWhereNoTryIsLeft }
-{
-    0
-}
+{}
 
 // The walk by what a program stores of it: the ranked legs with their delays, and the leg that is tested next.
-pub fn stored_walk() -> u8
+pub fn stored_walk()
     ensures steps { TryIsAStep }
     ensures run { TriesMakeWhatIsLeft }
     ensures start { FirstStageHasAll }
@@ -54,18 +46,14 @@ pub fn stored_walk() -> u8
     ensures kept { EveryStageIsKept }
     ensures orders { CompleteHasItsOrders }
     ensures delays { FoundDelaysAreStored }
-{
-    0
-}
+{}
 
 // The worked example: it keeps what the theorems assume; its walks, its orders, the order of its tests and its bound.
-pub fn worked_example() -> u8
+pub fn worked_example()
     ensures lawful { ExampleLawful }
     ensures found { FoundAfterFive × FoundAtTheLimit }
     ensures none { NoneBelowTheLimit × NoneAfterThree }
     ensures meets { MeetsToTheNanosecond }
     ensures ready { ReadyLegFirst }
     ensures bound { BoundOfTwelve }
-{
-    0
-}
+{}
