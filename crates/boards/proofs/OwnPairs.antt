@@ -3,6 +3,7 @@ use Rattle.std.proofs.Common.{◌≡◌, ℕ, ◌≤◌, Bool, true, false, ◌&
 use Rattle.std.specs.List.{flat_map}
 use Rattle.std.proofs.lemmas.Bool.{and_parts, and_from, ltb-true, eqb-true, eqb-false, cases_Bool, cond-true, cond-false}
 use Rattle.std.proofs.lemmas.Bool.Decides.{nat_tests}
+use Rattle.std.proofs.Math.Bool.{and-true}
 use Rattle.bus.specs.declared.message.Message.{Message}
 use Rattle.search.specs.Lists.{every}
 use Rattle.search.specs.Net.{Leg, Pair, same, touches}
@@ -14,10 +15,6 @@ use Rattle.boards.proofs.Elements.{map_is}
 every_append : {X : Type 0} (f : X → Bool) (xs ys : List X) → every f (xs ++ ys) ≡ (every f xs && every f ys)
 every_append f [] ys = refl
 every_append f (x ∷ xs) ys = grind (arith, every_append f xs ys)
-
-and_true : (a b : Bool) → b ≡ true → (a && b) ≡ a
-and_true true b h = h
-and_true false b h = refl
 
 no_end : (x : Leg) (m : Message) (bus : ℕ) → (m.number ≡ x.message → ⊥) → touches x (pair_to m bus) ≡ false
 unfolding same
@@ -49,7 +46,7 @@ module _ (x : Leg) (f : Pair → Bool) (passes : (pr : Pair) → touches x pr �
             let is : y ≡ m = cc in
             let number = eqb-true _ _ t in
             let later = later_pairs y.number ms (omega arith) rest in
-            every_append f (pairs_of y) (flat_map pairs_of ms) ∙ and_true _ _ later ∙ ap (λ v. every f (pairs_of v)) is
+            every_append f (pairs_of y) (flat_map pairs_of ms) ∙ ap (λ t. every f (pairs_of y) && t) later ∙ and-true _ ∙ ap (λ v. every f (pairs_of v)) is
         | inr t ↦
             let there = sym (cond-false _ (Some y) (message_of ms x.message) t) ∙ e in
             every_append f (pairs_of y) (flat_map pairs_of ms)

@@ -2,6 +2,7 @@
 ghost use Rattle.std.specs.Prelude.{ℕ};
 ghost use Rattle.bus.specs.Range.{In, bridge_times};
 
+// No Clone: it is not derived over a ghost field.
 #[derive(PartialEq, Eq, Debug, Drop)]
 pub struct Bridge<R> {
     pub inner: R,

@@ -42,16 +42,16 @@ impl Refusal {
 impl fmt::Display for Refusal {
     fn fmt<W: fmt::Write>(&self, f: &mut fmt::Formatter<W>) -> fmt::Result {
         f.write_str(match self {
-            Refusal::Form => "a line breaks the form",
+            Refusal::Form => "a line of the sheet breaks the form",
             Refusal::Count => "a count is out of range",
             Refusal::Range => "a number is out of range",
-            Refusal::NoBus => "the board has no such bus",
+            Refusal::NoBus => "a bus is not on the board",
             Refusal::SourceIsDestination => "the source is one of the destinations",
-            Refusal::Taken => "the message number is taken",
-            Refusal::NoLeg => "the message has no leg there",
+            Refusal::Taken => "the number is taken",
+            Refusal::NoLeg => "there is no such leg",
             Refusal::NoMessages => "the board has no messages",
-            Refusal::NotFound => "the search has not found an order",
-            Refusal::FewRows => "there is too little room",
+            Refusal::NotFound => "the walk has found no orders",
+            Refusal::FewRows => "there are too few rows, or the buffer is too small",
             Refusal::WrongRows => "the rows do not name every leg exactly once, by bus",
         })
     }

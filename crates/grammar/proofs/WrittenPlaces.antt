@@ -1,6 +1,7 @@
 -- Which line stands where, once some lines are dropped.
-use Rattle.std.proofs.Common.{◌≡◌, ℕ, zero, suc, ◌+◌, true, eqb, List, [], ◌∷◌, ◌++◌, drop, Some, ap, ◌∙◌, arith}
+use Rattle.std.proofs.Common.{◌≡◌, ℕ, zero, suc, ◌+◌, true, eqb, List, [], ◌∷◌, ◌++◌, drop, Some, sym, ap, add-one, ◌∙◌, arith}
 use Rattle.std.proofs.lemmas.Bool.{cond-false, ne_eqb}
+use Rattle.std.proofs.lemmas.List.{drop-drop}
 use Rattle.boards.specs.Nets.{numbers_from}
 use Rattle.grammar.specs.Content.{words_in, words_of}
 use Rattle.grammar.specs.Text.{TextLine, line_at}
@@ -18,10 +19,7 @@ line-at (k ∷ ls) zero l rest e = grind arith
 line-at (k ∷ ls) (suc n) l rest e = line_at-suc k ls n ∙ line-at ls n l rest e
 
 pub drop_next : {X : Type 0} (xs : List X) (n : ℕ) (x : X) (rest : List X) → drop n xs ≡ x ∷ rest → drop (suc n) xs ≡ rest
-drop_next [] zero x rest e = grind arith
-drop_next [] (suc n) x rest e = grind arith
-drop_next (y ∷ xs) zero x rest e = grind arith
-drop_next (y ∷ xs) (suc n) x rest e = drop_next xs n x rest e
+drop_next xs n x rest e = ap (λ k. drop k xs) (sym (add-one n)) ∙ sym (drop-drop 1 n xs) ∙ ap (drop 1) e
 
 pub words-at : (ls : List TextLine) (n : ℕ) (w : List ℕ) (ws : List (List ℕ)) → clear (w ∷ ws) ≡ true → line_at ls n ≡ Some (line_of (w ∷ ws)) →
     words_of ls n ≡ w ∷ ws

@@ -3,7 +3,7 @@ use Rattle.std.proofs.Common.{◌≡◌, ℕ, zero, suc, ◌+◌, ◌^◌, ◌<�
 use Rattle.std.specs.Str.{all_ascii_digits}
 use Rattle.std.proofs.lemmas.Fmt.{digits_decimal, digits_value-decimal, length-decimal-le, decimal_nonempty, decimal_digit, first_decimal}
 use Rattle.std.proofs.lemmas.Str.Parse.{IsNumeralModel, numerals_by_fold, tells_all_ascii_digits}
-use Rattle.std.proofs.lemmas.Bool.{and_parts, and_from, false≢true, eqb-true, leb-true, le-leb, lt-ltb, ne_eqb, cases_eq}
+use Rattle.std.proofs.lemmas.Bool.{and_parts, and_from, eqb-true, leb-true, le-leb, lt-ltb, ne_eqb, cases_eq}
 use Rattle.bus.specs.Numbered.{member}
 use Rattle.search.specs.Lists.{every}
 use Rattle.boards.specs.Nets.{numbers_from}
@@ -92,11 +92,11 @@ every-number f k (suc n) i h low high =
     ]
 
 and_four : (a b c d : Bool) → (a && (b && (c && d))) ≡ true → (a ≡ true) × (b ≡ true) × (c ≡ true) × (d ≡ true)
-and_four true true true true h = (refl, refl, refl, refl)
-and_four true true true false h = absurd (false≢true h)
-and_four true true false d h = absurd (false≢true h)
-and_four true false c d h = absurd (false≢true h)
-and_four false b c d h = absurd (false≢true h)
+and_four a b c d h =
+    let first = and_parts a _ h in
+    let second = and_parts b _ first.1 in
+    let third = and_parts c d second.1 in
+    (first.0, second.0, third.0, third.1)
 
 -- what a word for a set has to be
 pub record SetWord (set : ℕ) (w : List ℕ) : Type 0 where
