@@ -5,7 +5,7 @@ use Rattle.std.proofs.lemmas.Nat.{mul-le}
 use Rattle.std.proofs.lemmas.List.Sums.{sum_by-cons, sum_by-append}
 use Rattle.std.proofs.lemmas.Bool.{cond-true, cond-false, le-leb, lt-leb, eq-eqb, ne_eqb, cases_lt, cases_eq}
 use Rattle.bus.specs.Range.{In, bit_times, payloads, frame_times}
-use Rattle.frames.specs.Classic.{frame, classic_time, can11_time, can29_time}
+use Rattle.frames.specs.Classic.{frame, classic_time}
 
 sum_replicate : (f : ℕ → ℕ) (n x : ℕ) → sum_by f (replicate n x) ≡ n * f x
 sum_replicate f zero x = sym (zero-mul (f x))
@@ -64,10 +64,3 @@ classic_range base bit s low high b p =
     let t : In frame_times (frame base bit s) = (frame-low base bit s low b.0, omega (arith, frame-high base bit s high b.1 h)) in
     subst (In frame_times) (sym (one_frame base bit s h)) t)
     (cases_lt 8 s)
-
--- the range of the two carriers' times, which they have as a law
-pub can11_range : (bit s : ℕ) → In bit_times bit → In payloads s → In frame_times (can11_time bit s)
-can11_range bit s = classic_range 55 bit s (omega arith) (omega arith)
-
-pub can29_range : (bit s : ℕ) → In bit_times bit → In payloads s → In frame_times (can29_time bit s)
-can29_range bit s = classic_range 80 bit s (omega arith) (omega arith)
