@@ -1,16 +1,12 @@
 -- The classic time by the number of whole frames and the remainder, and its range.
-use Rattle.std.specs.Prelude.{◌≡◌, ℕ, zero, suc, ◌+◌, ◌*◌, ◌/◌, ◌%◌, ◌<◌, ◌≤◌, cond, [], ◌∷◌, replicate, sum_by, ◌==◌, ◌≢◌}
-use Rattle.std.proofs.Common.{sym, ap, subst, ◌∙◌, ⊎_elim, zero-mul, suc-mul, add_comm, arith}
+use Rattle.std.specs.Prelude.{◌≡◌, ℕ, ◌+◌, ◌*◌, ◌/◌, ◌%◌, ◌<◌, ◌≤◌, cond, [], ◌∷◌, replicate, sum_by, ◌==◌, ◌≢◌}
+use Rattle.std.proofs.Common.{sym, ap, subst, ◌∙◌, ⊎_elim, arith}
 use Rattle.std.proofs.lemmas.Nat.{mul-le}
-use Rattle.std.proofs.lemmas.List.Sums.{sum_by-cons, sum_by-append}
+use Rattle.std.proofs.lemmas.List.Folds.{sum_by-replicate}
+use Rattle.std.proofs.lemmas.List.Sums.{sum_by-append}
 use Rattle.std.proofs.lemmas.Bool.{cond-true, cond-false, le-leb, lt-leb, eq-eqb, ne_eqb, cases_lt, cases_eq}
 use Rattle.bus.specs.Range.{In, bit_times, payloads, frame_times}
 use Rattle.frames.specs.Classic.{frame, classic_time}
-
-sum_replicate : (f : ℕ → ℕ) (n x : ℕ) → sum_by f (replicate n x) ≡ n * f x
-sum_replicate f zero x = sym (zero-mul (f x))
-sum_replicate f (suc n) x =
-    sum_by-cons f x (replicate n x) ∙ ap (λ z. f x + z) (sum_replicate f n x) ∙ add_comm (f x) (n * f x) ∙ sym (suc-mul n (f x))
 
 module _ (base bit s : ℕ) where
   pub one_frame : s ≤ 8 → classic_time base bit s ≡ frame base bit s
@@ -20,7 +16,7 @@ module _ (base bit s : ℕ) where
   long h =
       ap (λ l. sum_by (frame base bit) l) (cond-false _ _ _ (lt-leb s 8 h))
       ∙ sum_by-append (frame base bit) (replicate (s / 8) 8) _
-      ∙ ap (λ z. z + sum_by (frame base bit) (cond (s % 8 == 0) [] (s % 8 ∷ []))) (sum_replicate (frame base bit) (s / 8) 8)
+      ∙ ap (λ z. z + sum_by (frame base bit) (cond (s % 8 == 0) [] (s % 8 ∷ []))) (sum_by-replicate (frame base bit) (s / 8) 8)
 
   pub whole_frames : 8 < s → s % 8 ≡ 0 → classic_time base bit s ≡ s / 8 * frame base bit 8
   whole_frames h e =

@@ -2,7 +2,7 @@
 use Rattle.std.specs.Prelude.{◌≡◌, ℕ, ◌*◌, ◌/◌, ◌<◌, ◌≤◌, Bool, true, false, cond, not, List, [], ◌∷◌, is_some, Some, sum_by, ◌==◌, refl}
 use Rattle.std.proofs.Common.{ap, ⊎_elim, mul-le-mul_right, arith}
 use Rattle.std.proofs.lemmas.Nat.{div-add-mod', le-div}
-use Rattle.std.proofs.lemmas.List.Sums.{sum_by-cons}
+use Rattle.std.proofs.lemmas.List.Sums.{sum_by-cons, sum_by-le-sum_by}
 use Rattle.std.proofs.lemmas.Bool.{cases_lt, eq-eqb, eqb-false, and_parts, and_from, not-true, false≢true}
 use Rattle.std.specs.List.{AllByRecursion}
 use Rattle.bus.specs.Legs.{leg_of}
@@ -69,13 +69,9 @@ cond_rises true m n h = h
 cond_rises false m n h = omega arith
 
 module _ (time : ℕ → ℕ) (tau : ℕ) (legs : List Leg) (n : ℕ) where
-  all_of : (P : Leg → Type 0) → ((x : Leg) → P x) → (xs : List Leg) → AllByRecursion P xs
-  all_of P f [] = tt
-  all_of P f (x ∷ xs) = (f x, all_of P f xs)
-
   pub queued-rises : (h : ℕ → Bool) → Rises (queued time tau legs n h)
   queued-rises h v w l =
-      omega (arith, sum_mono (λ x. cond (above n h x) (demand_of time tau v x) 0) (λ x. cond (above n h x) (demand_of time tau w x) 0) legs (all_of _ (λ x. cond_rises (above n h x) _ _ (demand_rises time tau x v w l)) legs))
+      omega (arith, sum_by-le-sum_by (λ x. cond (above n h x) (demand_of time tau v x) 0) (λ x. cond (above n h x) (demand_of time tau w x) 0) legs (λ x. cond_rises (above n h x) _ _ (demand_rises time tau x v w l)))
 
   pub queued-part : (h k : ℕ → Bool) → Part legs n h k → (w : ℕ) → queued time tau legs n h w ≤ queued time tau legs n k w
   queued-part h k part w =

@@ -24,5 +24,4 @@ pub type Can11 = Classic<Bits11>;
 // That the carrier's times are can11_time, as a theorem.
 pub fn can11_times(carrier: Can11)
     ensures { (s : ℕ) → ⟦<Can11 as Carrier>⟧.time carrier s ≡ can11_time carrier.bit s }
-{
-}
+{}

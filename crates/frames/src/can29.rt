@@ -24,5 +24,4 @@ pub type Can29 = Classic<Bits29>;
 // That the carrier's times are can29_time, as a theorem.
 pub fn can29_times(carrier: Can29)
     ensures { (s : ℕ) → ⟦<Can29 as Carrier>⟧.time carrier s ≡ can29_time carrier.bit s }
-{
-}
+{}

@@ -3,5 +3,4 @@ ghost use Rattle.frames.specs.Worked.{WorkedNumbers};
 
 pub fn worked_numbers()
     ensures { WorkedNumbers }
-{
-}
+{}
