@@ -1,6 +1,8 @@
 // Prints the delays of the legs of a small trailer: each with nothing above it, and with every other leg of its bus above it.
 #![tactic(auto)]
 
+ghost use Rattle.std.specs.Prelude.{◌≤◌, length, IfOk};
+
 mod legs;
 mod row;
 mod rows;
@@ -24,7 +26,9 @@ fn print_bus<C: Carrier>(
     bus: u8,
     rule: &Equation<C>,
     legs: &[Leg],
-) -> io::Result<usize> {
+) -> io::Result<usize>
+    ensures { IfOk result (λ safe. safe ≤ length legs.now) }
+{
     let rows: Vec<Row> = legs
         .iter()
         .map(|leg| row_of(rule, legs, leg.message))
@@ -50,7 +54,7 @@ fn run(rt: &HostRuntime) -> anyhow::Result<()> {
     let safe = print_bus(rt, 1, &Equation { carrier: can }, &first)?;
     let more = print_bus(rt, 2, &Equation { carrier: fd }, &second)?;
     let legs = first.len() + second.len();
-    let never = safe.saturating_add(more);
+    let never = safe + more;
     println!(rt; "{legs} legs, {never} can never be late")?;
     Ok(())
 }
