@@ -2,10 +2,10 @@
 use std::fmt;
 
 // A delay in nanoseconds, or over.
-#[derive(Clone, Copy, PartialEq, Eq, Debug)]
+#[derive(Clone, Copy)]
 pub struct Delay(pub Option<u64>);
 
-#[derive(Clone, Copy, PartialEq, Eq, Debug)]
+#[derive(Clone, Copy)]
 pub struct Row {
     pub number: u8,
     // the time of the frames

@@ -9,7 +9,7 @@ use Rattle.bus.specs.Range.{In, bit_times, payloads, frame_times}
 use Rattle.frames.specs.Classic.{frame, classic_time}
 
 module _ (base bit s : ℕ) where
-  pub one_frame : s ≤ 8 → classic_time base bit s ≡ frame base bit s
+  one_frame : s ≤ 8 → classic_time base bit s ≡ frame base bit s
   one_frame h = ap (λ l. sum_by (frame base bit) l) (cond-true _ _ _ (le-leb s 8 h)) ∙ omega arith
 
   long : 8 < s → classic_time base bit s ≡ s / 8 * frame base bit 8 + sum_by (frame base bit) (cond (s % 8 == 0) [] (s % 8 ∷ []))
@@ -18,26 +18,26 @@ module _ (base bit s : ℕ) where
       ∙ sum_by-append (frame base bit) (replicate (s / 8) 8) _
       ∙ ap (λ z. z + sum_by (frame base bit) (cond (s % 8 == 0) [] (s % 8 ∷ []))) (sum_by-replicate (frame base bit) (s / 8) 8)
 
-  pub whole_frames : 8 < s → s % 8 ≡ 0 → classic_time base bit s ≡ s / 8 * frame base bit 8
+  whole_frames : 8 < s → s % 8 ≡ 0 → classic_time base bit s ≡ s / 8 * frame base bit 8
   whole_frames h e =
       long h
       ∙ ap (λ l. s / 8 * frame base bit 8 + sum_by (frame base bit) l) (cond-true _ _ _ (eq-eqb (s % 8) 0 e))
       ∙ omega arith
 
-  pub frames_and_rest : 8 < s → (s % 8 ≢ 0) → classic_time base bit s ≡ s / 8 * frame base bit 8 + frame base bit (s % 8)
+  frames_and_rest : 8 < s → (s % 8 ≢ 0) → classic_time base bit s ≡ s / 8 * frame base bit 8 + frame base bit (s % 8)
   frames_and_rest h e =
       long h
       ∙ ap (λ l. s / 8 * frame base bit 8 + sum_by (frame base bit) l) (cond-false _ _ _ (ne_eqb (s % 8) 0 e))
       ∙ omega arith
 
-  pub frame-high : base ≤ 80 → bit ≤ 100000 → s ≤ 8 → frame base bit s ≤ 16000000
+  frame-high : base ≤ 80 → bit ≤ 100000 → s ≤ 8 → frame base bit s ≤ 16000000
   frame-high g h k = mul-le (base + 10 * s) bit 160 100000 (omega arith) h
 
-  pub frame-low : 1 ≤ base → 50 ≤ bit → 1 ≤ frame base bit s
+  frame-low : 1 ≤ base → 50 ≤ bit → 1 ≤ frame base bit s
   frame-low g h = mul-le 1 1 (base + 10 * s) bit (omega arith) (omega arith)
 
 -- at most eight frames, each of at most 160 bits
-pub frames_high : (base bit s : ℕ) → base ≤ 80 → bit ≤ 100000 → s ≤ 64 → s / 8 * frame base bit 8 ≤ s / 8 * 16000000
+frames_high : (base bit s : ℕ) → base ≤ 80 → bit ≤ 100000 → s ≤ 64 → s / 8 * frame base bit 8 ≤ s / 8 * 16000000
 frames_high base bit s g h k = mul-le (s / 8) (frame base bit 8) (s / 8) 16000000 (omega arith) (frame-high base bit 8 g h (omega arith))
 
 pub classic_range : (base bit s : ℕ) → 1 ≤ base → base ≤ 80 → In bit_times bit → In payloads s → In frame_times (classic_time base bit s)

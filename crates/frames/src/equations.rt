@@ -1,7 +1,7 @@
 // What the equation rule answers.
 //
 // A leg queues for the least w with w = B + Σ ⌈(w + J + τ) / T⌉ · C, the sum over the legs above it.
-ghost use Rattle.std.specs.Prelude.{◌≡◌, ◌+◌, ◌-◌, ◌^◌, ◌≤◌, min, IfSome, if◌then◌else◌, Some};
+ghost use Rattle.std.specs.Prelude.{◌≡◌, ◌+◌, ◌-◌, ◌^◌, ◌≤◌, min, IfSome, Some};
 ghost use Rattle.bus.specs.Legs.{leg_of};
 ghost use Rattle.bus.specs.Numbered.{member};
 ghost use Rattle.bus.specs.declared.leg.Leg.{Leg as Shown};
@@ -88,24 +88,21 @@ impl<C: Carrier> Equation<C> {
 }
 
 impl<C: Carrier> Queue<'_, C> {
-    // The time that the frames of a leg take in a queuing time of w, where it is another one than the number's and above it, else 0.
-    fn share(&self, leg: Leg, w: Trial) -> u64
-        ensures { result ≡ (if eq.above self.now.number (member self.now.above.bits) leg then eq.demand_of (C.Carrier.time self.now.rule.now.carrier) (C.Carrier.bit self.now.rule.now.carrier) w.time leg else 0) }
+    // Whether a leg is another one than the number's and above it.
+    fn is_above(&self, leg: Leg) -> bool
+        ensures { result ≡ eq.above self.now.number (member self.now.above.bits) leg }
     {
-        if leg.message.number != self.number && self.above.contains(leg.message.number) {
-            self.rule.demand(leg, w)
-        } else {
-            0
-        }
+        leg.message.number != self.number && self.above.contains(leg.message.number)
     }
 
-    // The sum of these over the legs of the bus, as far as 64 bits go.
+    // The time that the frames of the legs above take in a queuing time of w, as far as 64 bits go.
     fn interference(&self, w: Trial) -> u64
         ensures { result ≡ min (eq.interference (C.Carrier.time self.now.rule.now.carrier) (C.Carrier.bit self.now.rule.now.carrier) self.now.legs.now self.now.number (member self.now.above.bits) w.time) (2 ^ 64 - 1) }
     {
-        self.legs
-            .iter()
-            .fold(0, |sum: u64, leg| sum.saturating_add(self.share(*leg, w)))
+        self.legs.iter().filter(|leg| self.is_above(**leg)).fold(
+            0,
+            |sum: u64, leg| sum.saturating_add(self.rule.demand(*leg, w)),
+        )
     }
 
     // The queuing time, where it is at most the leg's deadline: from 0 up, the right side of the equation again and again.
