@@ -31,6 +31,7 @@ pub struct Classic<I> {
     ghost range: { In bit_times bit },
 }
 
+// By hand: no derive makes a Clone for a struct with a type parameter and a ghost field.
 impl<I> Clone for Classic<I> {
     fn clone(&self) -> Result<Classic<I>, AllocError>
         ensures { result ≡ Ok self.now }
