@@ -10,11 +10,8 @@ use std::alloc::{AllocError, Global};
 pub(crate) fn legs_on(heap: Global, messages: &[Message], bus: u8) -> Result<Vec<Leg>, AllocError>
     ensures { IfOk result (λ v. v.items ≡ legs_on messages.now bus) }
 {
-    let mut legs = Vec::new(heap);
-    for message in messages {
-        if let Some(leg) = message.leg_on(bus) {
-            legs.push(leg)?;
-        }
-    }
-    Ok(legs)
+    messages
+        .iter()
+        .filter_map(|message| message.leg_on(bus))
+        .collect(heap)
 }

@@ -1,18 +1,21 @@
 // Prints the delays of the legs of a small trailer: each with nothing above it, and with every other leg of its bus above it.
 #![tactic(auto)]
 
+ghost use Rattle.std.specs.Prelude.{◌≤◌, length, IfOk};
+
 mod legs;
 mod row;
 mod rows;
 mod trailer;
 
-use anyhow::anyhow;
+use anyhow::Context;
 use bus::leg::Leg;
 use frames::can11::Can11;
 use frames::carrier::Carrier;
 use frames::equation::Equation;
 use frames::fd::Fd11;
 use legs::legs_on;
+use row::Row;
 use rows::row_of;
 use std::io;
 use trailer::messages;
@@ -23,34 +26,35 @@ fn print_bus<C: Carrier>(
     bus: u8,
     rule: &Equation<C>,
     legs: &[Leg],
-) -> io::Result<usize> {
-    let mut safe: usize = 0;
-    for leg in legs {
-        let row = row_of(rule, legs, leg.message);
+) -> io::Result<usize>
+    ensures { IfOk result (λ safe. safe ≤ length legs.now) }
+{
+    let rows: Vec<Row> = legs
+        .iter()
+        .map(|leg| row_of(rule, legs, leg.message))
+        .collect(rt.alloc())?;
+    for row in &rows {
         println!(rt; "{bus} {row}")?;
-        if row.lowest.value.is_some() {
-            safe = safe.saturating_add(1);
-        }
     }
-    Ok(safe)
+    Ok(rows.iter().filter(|row| row.lowest.0.is_some()).count())
 }
 
 // The trailer has a classic bus and a CAN FD bus, both at 500 kbit/s, with 2 Mbit/s in the data phase.
 fn run(rt: &HostRuntime) -> anyhow::Result<()> {
-    let Ok(can) = Can11::new(2000) else {
-        return Err(anyhow!("the bit time of bus 1 is out of range"));
-    };
-    let Ok(fd) = Fd11::new(2000, 500) else {
-        return Err(anyhow!("a bit time of bus 2 is out of range"));
-    };
+    let can = Can11::new(2000)
+        .ok()
+        .context("the bit time of bus 1 is out of range")?;
+    let fd = Fd11::new(2000, 500)
+        .ok()
+        .context("a bit time of bus 2 is out of range")?;
     let messages = messages(rt.alloc())?;
     let first = legs_on(rt.alloc(), &messages, 1)?;
     let second = legs_on(rt.alloc(), &messages, 2)?;
     println!(rt; "bus message frame highest lowest")?;
     let safe = print_bus(rt, 1, &Equation { carrier: can }, &first)?;
     let more = print_bus(rt, 2, &Equation { carrier: fd }, &second)?;
-    let legs = first.len().saturating_add(second.len());
-    let never = safe.saturating_add(more);
+    let legs = first.len() + second.len();
+    let never = safe + more;
     println!(rt; "{legs} legs, {never} can never be late")?;
     Ok(())
 }

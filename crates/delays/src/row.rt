@@ -3,9 +3,7 @@ use std::fmt;
 
 // A delay in nanoseconds, or over.
 #[derive(Clone, Copy)]
-pub struct Delay {
-    pub value: Option<u64>,
-}
+pub struct Delay(pub Option<u64>);
 
 #[derive(Clone, Copy)]
 pub struct Row {
@@ -20,19 +18,21 @@ pub struct Row {
 
 impl fmt::Display for Delay {
     fn fmt<W: fmt::Write>(&self, f: &mut fmt::Formatter<W>) -> fmt::Result {
-        match self.value {
+        match self.0 {
             Some(delay) => write!(f, "{delay}"),
-            None => write!(f, "over"),
+            None => f.write_str("over"),
         }
     }
 }
 
 impl fmt::Display for Row {
     fn fmt<W: fmt::Write>(&self, f: &mut fmt::Formatter<W>) -> fmt::Result {
-        let number = self.number;
-        let frame = self.frame;
-        let highest = self.highest;
-        let lowest = self.lowest;
+        let Row {
+            number,
+            frame,
+            highest,
+            lowest,
+        } = self;
         write!(f, "{number} {frame} {highest} {lowest}")
     }
 }

@@ -15,19 +15,15 @@ use frames::equation::Equation;
 pub(crate) fn row_of<C: Carrier>(rule: &Equation<C>, legs: &[Leg], message: Message) -> Row
     ensures number { result.number ≡ message.number }
     ensures frame { result.frame ≡ C.Carrier.time rule.now.carrier message.payload.bytes }
-    ensures highest { result.highest.value ≡ equation (C.Carrier.time rule.now.carrier) (C.Carrier.bit rule.now.carrier) legs.now message.number (member 0) }
-    ensures lowest { result.lowest.value ≡ equation (C.Carrier.time rule.now.carrier) (C.Carrier.bit rule.now.carrier) legs.now message.number (member 18446744073709551615) }
+    ensures highest { result.highest.0 ≡ equation (C.Carrier.time rule.now.carrier) (C.Carrier.bit rule.now.carrier) legs.now message.number (member 0) }
+    ensures lowest { result.lowest.0 ≡ equation (C.Carrier.time rule.now.carrier) (C.Carrier.bit rule.now.carrier) legs.now message.number (member 18446744073709551615) }
 {
     let none = LegSet { bits: 0 };
     let all = LegSet { bits: u64::MAX };
     Row {
         number: message.number,
         frame: rule.carrier.frame_time(message.payload),
-        highest: Delay {
-            value: rule.delay(legs, message.number, none),
-        },
-        lowest: Delay {
-            value: rule.delay(legs, message.number, all),
-        },
+        highest: Delay(rule.delay(legs, message.number, none)),
+        lowest: Delay(rule.delay(legs, message.number, all)),
     }
 }

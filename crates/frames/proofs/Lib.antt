@@ -1,4 +1,1 @@
-pub mod FdSums
-pub mod Steps
-pub mod Waits
 pub mod WorkedNumbers

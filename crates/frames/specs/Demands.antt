@@ -2,9 +2,10 @@
 use Rattle.std.specs.Prelude.{◌≡◌, ℕ, ◌*◌, ◌/◌, ◌<◌, ◌≤◌, Bool, true, false, cond, not, List, [], ◌∷◌, is_some, Some, sum_by, ◌==◌, refl}
 use Rattle.std.proofs.Common.{ap, ⊎_elim, mul-le-mul_right, arith}
 use Rattle.std.proofs.lemmas.Nat.{div-add-mod', le-div}
-use Rattle.std.proofs.lemmas.List.Sums.{sum_by-cons}
+use Rattle.std.proofs.lemmas.List.Elements.{All-nil, All-cons, All-head, All-tail, All-weaker}
+use Rattle.std.proofs.lemmas.List.Sums.{sum_by-cons, sum_by-le-sum_by}
 use Rattle.std.proofs.lemmas.Bool.{cases_lt, eq-eqb, eqb-false, and_parts, and_from, not-true, false≢true}
-use Rattle.std.specs.List.{AllByRecursion}
+use Rattle.std.specs.List.{All}
 use Rattle.bus.specs.Legs.{leg_of}
 use Rattle.bus.specs.Rules.{Part}
 use Rattle.bus.specs.declared.leg.Leg.{Leg}
@@ -25,13 +26,9 @@ demand_rises : (time : ℕ → ℕ) (tau : ℕ) (leg : Leg) → Rises (λ w. dem
 demand_rises time tau leg v w h =
     mul-le-mul_right (time_of time leg) (ceiling-rises leg.message.period (omega arith) _ _ (omega arith))
 
-sum_mono : {X : Type 0} (f g : X → ℕ) (xs : List X) → AllByRecursion (λ x. f x ≤ g x) xs → sum_by f xs ≤ sum_by g xs
+sum_mono : {X : Type 0} (f g : X → ℕ) (xs : List X) → All (λ x. f x ≤ g x) xs → sum_by f xs ≤ sum_by g xs
 sum_mono f g [] h = omega arith
-sum_mono f g (x ∷ xs) h = omega (arith, sum_by-cons f x xs, sum_by-cons g x xs, sum_mono f g xs h.1, h.0)
-
-all_map : {X : Type 0} (P Q : X → Type 0) → ((x : X) → P x → Q x) → (xs : List X) → AllByRecursion P xs → AllByRecursion Q xs
-all_map P Q f [] h = tt
-all_map P Q f (x ∷ xs) h = (f x h.0, all_map P Q f xs h.1)
+sum_mono f g (x ∷ xs) h = omega (arith, sum_by-cons f x xs, sum_by-cons g x xs, All-head (λ z. f z ≤ g z) x xs h, sum_mono f g xs (All-tail (λ z. f z ≤ g z) x xs h))
 
 -- each leg of a list is found there by its number
 abbrev Found : List Leg → Leg → Type 0
@@ -44,12 +41,12 @@ found-behind y xs x h = go (y.message.number == x.message.number)
     go true = refl
     go false = h
 
-listed : (xs : List Leg) → AllByRecursion (Found xs) xs
-listed [] = tt
-listed (x ∷ xs) = (
-  ap (λ t. is_some (cond t (Some x) (leg_of xs x.message.number))) (eq-eqb x.message.number x.message.number refl),
-  all_map (Found xs) (Found (x ∷ xs)) (found-behind x xs) xs (listed xs),
-)
+listed : (xs : List Leg) → All (Found xs) xs
+listed [] = All-nil (Found [])
+listed (x ∷ xs) =
+    All-cons (Found (x ∷ xs)) x xs
+    (ap (λ t. is_some (cond t (Some x) (leg_of xs x.message.number))) (eq-eqb x.message.number x.message.number refl))
+    (All-weaker (Found xs) (Found (x ∷ xs)) (found-behind x xs) xs (listed xs))
 
 -- a leg above n's in h is above it in k
 above-part : (legs : List Leg) (n : ℕ) (h k : ℕ → Bool) → Part legs n h k → (x : Leg) → Found legs x → above n h x ≡ true → above n k x ≡ true
@@ -69,14 +66,13 @@ cond_rises true m n h = h
 cond_rises false m n h = omega arith
 
 module _ (time : ℕ → ℕ) (tau : ℕ) (legs : List Leg) (n : ℕ) where
-  all_of : (P : Leg → Type 0) → ((x : Leg) → P x) → (xs : List Leg) → AllByRecursion P xs
-  all_of P f [] = tt
-  all_of P f (x ∷ xs) = (f x, all_of P f xs)
-
   pub queued-rises : (h : ℕ → Bool) → Rises (queued time tau legs n h)
   queued-rises h v w l =
-      omega (arith, sum_mono (λ x. cond (above n h x) (demand_of time tau v x) 0) (λ x. cond (above n h x) (demand_of time tau w x) 0) legs (all_of _ (λ x. cond_rises (above n h x) _ _ (demand_rises time tau x v w l)) legs))
+      omega (arith, sum_by-le-sum_by (λ x. cond (above n h x) (demand_of time tau v x) 0) (λ x. cond (above n h x) (demand_of time tau w x) 0) legs (λ x. cond_rises (above n h x) _ _ (demand_rises time tau x v w l)))
 
   pub queued-part : (h k : ℕ → Bool) → Part legs n h k → (w : ℕ) → queued time tau legs n h w ≤ queued time tau legs n k w
   queued-part h k part w =
-      omega (arith, sum_mono (λ x. cond (above n h x) (demand_of time tau w x) 0) (λ x. cond (above n k x) (demand_of time tau w x) 0) legs (all_map (Found legs) _ (λ x f. cond_less (above n h x) (above n k x) (demand_of time tau w x) (above-part legs n h k part x f)) legs (listed legs)))
+      let f : Leg → ℕ = λ x. cond (above n h x) (demand_of time tau w x) 0 in
+      let g : Leg → ℕ = λ x. cond (above n k x) (demand_of time tau w x) 0 in
+      let less = λ (x : Leg) (found : Found legs x). cond_less (above n h x) (above n k x) (demand_of time tau w x) (above-part legs n h k part x found) in
+      omega (arith, sum_mono f g legs (All-weaker (Found legs) (λ x. f x ≤ g x) less legs (listed legs)))

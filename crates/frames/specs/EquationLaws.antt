@@ -1,11 +1,11 @@
 -- The equation rule keeps the rule laws, over any carrier; and its delay is that of the least solution, in both directions.
 use Rattle.std.specs.Prelude.{◌≡◌, ℕ, ◌≤◌, Bool, cond, List, Some, None, Option}
-use Rattle.std.proofs.Common.{sym, ap, subst, ◌∙◌, arith}
+use Rattle.std.proofs.Common.{sym, ap, subst, arith}
 use Rattle.bus.specs.Legs.{leg_of}
 use Rattle.bus.specs.Rules.{Bounded, Absent, Part, Shorter}
 use Rattle.bus.specs.declared.leg.Leg.{Leg}
 use Rattle.frames.specs.Equation.{time_of, queued, ends, delay_of, equation}
-use Rattle.frames.specs.Least.{Least, least_solution, delay_after, Exact}
+use Rattle.frames.specs.Least.{Least, Exact}
 use Rattle.frames.specs.Delays.{exact, shorter}
 use Rattle.frames.specs.Demands.{queued-rises, queued-part}
 
@@ -46,12 +46,6 @@ module _ (time : ℕ → ℕ) (tau : ℕ) where
 
   pub equation-shorter : Shorter (equation time tau)
   equation-shorter legs n h k d rises part a = shorter-at legs n h k d part (leg_of legs n) a
-
-  -- what a program has found
-  pub solved-is : (legs : List Leg) (n : ℕ) (h : ℕ → Bool) (leg : Leg) (o : Option ℕ) → leg_of legs n ≡ Some leg →
-      o ≡ least_solution (queued time tau legs n h) leg.message.deadline →
-      delay_after (ends time leg) leg.message.deadline o ≡ equation time tau legs n h
-  solved-is legs n h leg o here e = ap (delay_after (ends time leg) leg.message.deadline) e ∙ ap (delay_of time tau legs n h) (sym here)
 
   pub delay_is : (legs : List Leg) (n : ℕ) (h : ℕ → Bool) (leg : Leg) → leg_of legs n ≡ Some leg → (w : ℕ) → Least (queued time tau legs n h) w →
       ends time leg w ≤ leg.message.deadline → equation time tau legs n h ≡ Some (ends time leg w)

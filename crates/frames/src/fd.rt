@@ -9,7 +9,7 @@ use crate::carrier::Carrier;
 use bus::payload::Payload;
 use bus::refusal::Refusal;
 
-#[derive(Clone, Copy)]
+#[derive(Clone, Copy, PartialEq, Eq, Debug)]
 pub struct Fd11 {
     pub nominal: u64,
     // the bit time of the data phase
@@ -23,7 +23,7 @@ impl Fd11 {
     pub fn new(nominal: u64, fast: u64) -> Result<Fd11, Refusal>
         ensures { MatchResult result (λ c. ((inside bit_times nominal && inside (data_times nominal) fast) ≡ true) × (c.nominal ≡ nominal) × (c.fast ≡ fast)) (λ f. ((inside bit_times nominal && inside (data_times nominal) fast) ≡ false) × (f ≡ Range)) }
     {
-        if nominal < 50 || nominal > 100_000 || fast < 50 || fast > nominal {
+        if !(50..=100_000).contains(&nominal) || !(50..=nominal).contains(&fast) {
             return Err(Refusal::Range);
         }
         Ok(Fd11 { nominal, fast })
@@ -35,7 +35,7 @@ fn padded_length(payload: Payload) -> u64
     ensures { (result ≡ padded payload.bytes) × (result ≤ 64) }
 {
     match payload.bytes {
-        0..=8 => payload.bytes as u64,
+        0..=8 => u64::from(payload.bytes),
         9..=12 => 12,
         13..=16 => 16,
         17..=20 => 20,

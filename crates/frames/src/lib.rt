@@ -4,7 +4,7 @@
 pub mod can11;
 pub mod can29;
 pub mod carrier;
-mod classic;
+pub mod classic;
 pub mod equation;
 pub mod equations;
 pub mod fd;

@@ -20,10 +20,9 @@ fn plain() -> Entry {
 
 // The refusal's number, 0 where the message is made.
 fn outcome(entry: Entry) -> u8 {
-    match Message::new(entry) {
-        Ok(_) => 0,
-        Err(refusal) => refusal.number(),
-    }
+    Message::new(entry)
+        .err()
+        .map_or(0, |refusal| refusal.number())
 }
 
 #[test]
@@ -99,24 +98,20 @@ fn smallest_number_first(rt: HostRuntime) {
 
 #[test]
 fn legs_by_bus(rt: HostRuntime) -> Result<(), Fail> {
-    let Ok(message) = Message::new(plain()) else {
-        return Err(Fail::new("the message is refused"));
-    };
-    for (bus, on, source) in [
-        (0, false, false),
-        (1, true, true),
-        (2, true, false),
-        (3, true, false),
-        (4, false, false),
-        (9, false, false),
+    let message = Message::new(plain())?;
+    for (bus, source) in [
+        (0, None),
+        (1, Some(true)),
+        (2, Some(false)),
+        (3, Some(false)),
+        (4, None),
+        (9, None),
     ] {
-        match message.leg_on(bus) {
-            Some(leg) => {
-                assert!(rt; on);
-                assert_eq!(rt; leg.source, source);
-            }
-            None => assert!(rt; !on),
-        }
+        assert_eq!(rt;
+            message.leg_on(bus).map(|leg| leg.source),
+            source,
+            "bus {bus}"
+        );
     }
     Ok(())
 }

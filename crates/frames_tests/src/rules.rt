@@ -22,13 +22,10 @@ fn leg(number: u64, source: u64, period: u64, deadline: u64, jitter: u64) -> Res
         deadline,
         jitter,
     };
-    let Ok(message) = Message::new(entry) else {
-        return Err(Fail::new("the message is refused"));
-    };
-    match message.leg_on(1) {
-        Some(leg) => Ok(leg),
-        None => Err(Fail::new("the message has no leg on bus 1")),
-    }
+    let leg = Message::new(entry)?
+        .leg_on(1)
+        .ok_or("the message has no leg on bus 1")?;
+    Ok(leg)
 }
 
 fn can11() -> Result<Equation<Can11>, Fail> {
@@ -104,7 +101,7 @@ fn bridges_and_choices(rt: HostRuntime) -> Result<(), Fail> {
         let pile: Choice<Equation<Fd11>, Bridge<Equation<Can11>>> = Choice::Second(bridge);
         assert_eq!(rt; pile.delay(&legs, 1, LegSet::empty()), expected);
     }
-    assert_eq!(rt; Bridge::new(can11()?, 1_000_000_000).is_ok(), true);
-    assert_eq!(rt; Bridge::new(can11()?, 1_000_000_001).is_ok(), false);
+    assert!(rt; Bridge::new(can11()?, 1_000_000_000).is_ok());
+    assert!(rt; Bridge::new(can11()?, 1_000_000_001).is_err());
     Ok(())
 }

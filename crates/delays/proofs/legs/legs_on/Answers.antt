@@ -1,23 +1,23 @@
-use Rattle.std.proofs.Common.{◌≡◌, ◌++◌, vec_items, sym, ap, ◌∙◌, append-nil}
+use Rattle.std.proofs.Common.{rules, tests, ◌≡◌, ℕ, List, [], ◌∷◌, ◌++◌, Some, None, Option, IfOk, refl, ap, subst, ◌∙◌}
+use Rattle.std.proofs.lemmas.Iterator.{items_from_collect, YieldsList-from_slice}
+use Rattle.std.proofs.lemmas.Iterator.Consumers.{YieldsList-from_filter_map}
+use Rattle.std.specs.List.{filter_map, cons_option}
 use Rattle.std.specs.Option.{option_to_list}
-use Rattle.bus.specs.Legs.{leg_on}
-use Rattle.bus.proofs.LegLists.{legs_on-step, legs_on-all}
+use Rattle.bus.specs.Legs.{leg_on, legs_on}
+use Rattle.bus.specs.declared.message.Message.{Message}
 use Rattle.delays.proofs.legs.legs_on.Goals as goal
-use Rattle.delays.proofs.legs.legs_on.Goals.{in-Some+in_ok-push, in_default}
 
-pub loop-message-preserved : goal.loop-message-preserved
-loop-message-preserved c =
-    let put : vec_items c.match-leg_on.legs ≡ vec_items c.loop-message.legs ++ option_to_list (leg_on c.message-item.result c.args.bus) =
-    elim c.match-leg_on.branch [
-      | in-Some+in_ok-push w ↦
-          ap vec_items w.legs-is ∙ w.in_ok-push.ensures.items ∙ ap (λ o. vec_items c.loop-message.legs ++ option_to_list o) w.in-Some.ensures
-      | in_default w ↦
-          ap vec_items w.legs-is ∙ sym (append-nil _) ∙ ap (λ o. vec_items c.loop-message.legs ++ option_to_list o) w.in_default.ensures
-    ]
-    in
-    legs_on-step c.args.messages.now c.loop-message.message-index c.message-item.result c.args.bus
-    (vec_items c.loop-message.legs) (vec_items c.match-leg_on.legs) c.loop-message-test.true c.message-item.is put c.loop-message.invariant
+cons_option-append : {X : Type 0} (o : Option X) (xs : List X) → cons_option o xs ≡ option_to_list o ++ xs
+cons_option-append None xs = refl
+cons_option-append (Some x) xs = refl
+
+listed : (ms : List Message) (bus : ℕ) → filter_map (λ m. leg_on m bus) ms ≡ legs_on ms bus
+listed [] bus = refl
+listed (m ∷ ms) bus = cons_option-append (leg_on m bus) _ ∙ ap (λ l. option_to_list (leg_on m bus) ++ l) (listed ms bus)
 
 pub returns : goal.returns
 returns c =
-    legs_on-all c.args.messages.now c.loop-message.message-index c.args.bus (vec_items c.loop-message.legs) c.loop-message-test.false c.loop-message.invariant
+    let messages = c.args.messages.now in
+    let whole : IfOk c.collect.result (λ v. v.items ≡ filter_map (λ m. leg_on m c.args.bus) messages) =
+    items_from_collect _ c.collect.ensures.ran (YieldsList-from_filter_map _ _ (YieldsList-from_slice messages cc) c.filter_map.ensures.closure (λ x r q k. search (rules, tests)))
+    in subst (λ l. IfOk c.collect.result (λ v. v.items ≡ l)) (listed messages c.args.bus) whole
