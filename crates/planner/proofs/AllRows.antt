@@ -1,7 +1,8 @@
 -- The rows of the first buses, one after another: how many there are, and that those of all buses are what is shown.
-use Rattle.std.proofs.Common.{◌≡◌, ℕ, zero, suc, ◌+◌, ◌≤◌, Bool, true, ◌&&◌, ltb, leb, List, [], ◌∷◌, ◌++◌, map, length, take, drop, sym, refl, ap, ◌∙◌, add-zero, zero-add, arith}
+use Rattle.std.proofs.Common.{◌≡◌, ℕ, zero, suc, ◌+◌, ◌-◌, ◌≤◌, Bool, true, ◌&&◌, ltb, leb, List, [], ◌∷◌, ◌++◌, map, length, take, drop, sym, refl, ap, ◌∙◌, add-zero, zero-add, arith}
 use Rattle.std.specs.List.{filter}
-use Rattle.std.proofs.lemmas.List.{append-nil, append_assoc, length-append, length-map}
+use Rattle.std.proofs.lemmas.List.{append-nil, append_assoc, length-append}
+use Rattle.std.proofs.lemmas.List.Sums.{length-filter, count_by-le-length}
 use Rattle.std.proofs.lemmas.Bool.Decides.{nat_tests}
 use Rattle.bus.specs.Rules.{Meaning}
 use Rattle.bus.specs.declared.message.Message.{Message}
@@ -20,11 +21,7 @@ use Rattle.planner.proofs.SeenLegs.{length_rows}
 use Rattle.planner.proofs.Written.{written-more}
 
 -- ---------------------------------------------------------------- how many a test keeps
-kept_at-most : {X : Type 0} (f : X → Bool) (xs : List X) → length (filter f xs) ≤ length xs
-kept_at-most f [] = omega arith
-kept_at-most f (x ∷ xs) = grind (arith, kept_at-most f xs)
-
-pub kept-all : {X : Type 0} (f : X → Bool) (xs : List X) → every f xs ≡ true → length (filter f xs) ≡ length xs
+kept-all : {X : Type 0} (f : X → Bool) (xs : List X) → every f xs ≡ true → length (filter f xs) ≡ length xs
 kept-all f [] h = refl
 kept-all f (x ∷ xs) h = grind (arith, kept-all f xs)
 
@@ -46,10 +43,9 @@ rows_to net rs zero = []
 rows_to net rs (suc k) = rows_to net rs k ++ rows_in net (suc k) (order_on rs (suc k))
 
 module _ (net : Net) (rs : List Ranked) where
-  rows_more : (k : ℕ) → rows_to net rs (k + 1) ≡ rows_to net rs k ++ rows_in net (k + 1) (order_on rs (k + 1))
-  rows_more k =
-      let e : k + 1 ≡ suc k = omega arith in
-      ap (rows_to net rs) e ∙ ap (λ n. rows_to net rs k ++ rows_in net n (order_on rs n)) (sym e)
+  rows_more : (bus : ℕ) → 1 ≤ bus → rows_to net rs bus ≡ rows_to net rs (bus - 1) ++ rows_in net bus (order_on rs bus)
+  rows_more zero h = absurd (omega arith)
+  rows_more (suc k) h = let e : k ≡ suc k - 1 = omega arith in ap (λ j. rows_to net rs j ++ rows_in net (suc k) (order_on rs (suc k))) e
 
   rows_split : (k n : ℕ) → rows_to net rs k ++ rows_from net (suc k) (map (order_on rs) (numbers_from (suc k) n)) ≡ rows_to net rs (k + n)
   rows_split k zero = append-nil (rows_to net rs k) ∙ ap (rows_to net rs) (sym (add-zero k))
@@ -75,30 +71,33 @@ module _ (net : Net) (rs : List Ranked) where
       )
 
   rows-at_most : (k : ℕ) → length (rows_to net rs k) ≤ length rs
-  rows-at_most k = omega (arith, length_rows_to k, kept_at-most (on_first k) rs)
+  rows-at_most k = omega (arith, length_rows_to k, length-filter (on_first k) rs, count_by-le-length (on_first k) rs)
 
-  -- so one bus more finds room
-  pub room_for_bus : (k : ℕ) → length (rows_to net rs k) + length (order_on rs (k + 1)) ≤ length rs
-  room_for_bus k =
+  -- so a bus finds room behind those before it
+  pub room_for_bus : (bus : ℕ) → 1 ≤ bus → length (rows_to net rs (bus - 1)) + length (order_on rs bus) ≤ length rs
+  room_for_bus bus low =
       omega (
         arith,
-        rows-at_most (k + 1),
-        ap length (rows_more k),
-        length-append (rows_to net rs k) (rows_in net (k + 1) (order_on rs (k + 1))),
-        length_rows net (k + 1) (order_on rs (k + 1)),
+        rows-at_most bus,
+        ap length (rows_more bus low),
+        length-append (rows_to net rs (bus - 1)) (rows_in net bus (order_on rs bus)),
+        length_rows net bus (order_on rs bus),
       )
 
+  -- the rows of the first k buses are written up to a place
+  abbrev pub Filled : ℕ → ℕ → List Row → List Row → Type 0
+  Filled k at rows₀ rows = (at ≡ length (rows_to net rs k)) × (rows ≡ rows_to net rs k ++ drop at rows₀)
+
   -- one turn of a loop that writes the rows of the buses
-  pub bus_step : (k at end : ℕ) (rows₀ rows rows' : List Row) → at ≡ length (rows_to net rs k) → rows ≡ rows_to net rs k ++ drop at rows₀ →
-      end ≡ at + length (order_on rs (k + 1)) → rows' ≡ take at rows ++ (rows_in net (k + 1) (order_on rs (k + 1)) ++ drop end rows) →
-      (end ≡ length (rows_to net rs (k + 1))) × (rows' ≡ rows_to net rs (k + 1) ++ drop end rows₀)
-  bus_step k at end rows₀ rows rows' here was there is =
-      let old = rows_to net rs k in
-      let new = rows_in net (k + 1) (order_on rs (k + 1)) in
-      let more = rows_more k in
-      let long = length_rows net (k + 1) (order_on rs (k + 1)) in (
-        omega (arith, ap length more, length-append old new, long),
-        is ∙ written-more old new rows₀ rows at end here (omega (arith, long)) was ∙ ap (λ l. l ++ drop end rows₀) (sym more),
+  pub bus_step : (bus at end : ℕ) (rows₀ rows rows' : List Row) → 1 ≤ bus → Filled (bus - 1) at rows₀ rows → end ≡ at + length (order_on rs bus) →
+      rows' ≡ take at rows ++ (rows_in net bus (order_on rs bus) ++ drop end rows) → Filled bus end rows₀ rows'
+  bus_step bus at end rows₀ rows rows' low was there is =
+      let old = rows_to net rs (bus - 1) in
+      let new = rows_in net bus (order_on rs bus) in
+      let more = rows_more bus low in
+      let long = length_rows net bus (order_on rs bus) in (
+        omega (arith, was.0, ap length more, length-append old new, long),
+        is ∙ written-more old new rows₀ rows at end was.0 (omega (arith, long)) was.1 ∙ ap (λ l. l ++ drop end rows₀) (sym more),
       )
 
   -- where every ranked leg is on one of the buses, each has its row
@@ -106,33 +105,25 @@ module _ (net : Net) (rs : List Ranked) where
   rows-are_all k h = length_rows_to k ∙ kept-all (on_first k) rs h
 
 -- ---------------------------------------------------------------- what is shown
-module _ (ms : List Message) (rs : List Ranked) (legs : are_legs ms rs ≡ true) where
+module _ (ms : List Message) (rs : List Ranked) (legs : are_legs ms rs ≡ true) (rules : List Meaning) (gateway : ℕ) where
+  abbrev net : Net
+  net = net_of (board_of rules gateway ms)
+
   orders-are : (ks : List ℕ) → map (order_of (ranked_of rs)) (map (net_legs ms) ks) ≡ map (order_on rs) ks
   orders-are [] = refl
   orders-are (k ∷ ks) = ap (λ o. o ∷ map (order_of (ranked_of rs)) (map (net_legs ms) ks)) (order_is ms rs k legs) ∙ ap (λ os. order_on rs k ∷ os) (orders-are ks)
 
-  pub rows-shown : {S : Type 0} (f : S → Meaning) (rules : List S) (gateway : ℕ) →
-      let net = net_of (board_of (map f rules) gateway ms) in
-      rows_of net (orders_of net (ranked_of rs)) ≡ rows_to net rs (length rules)
-  rows-shown f rules gateway =
-      let net = net_of (board_of (map f rules) gateway ms) in
-      ap (rows_of net) (orders-are (bus_numbers (length (map f rules))))
-      ∙ rows_of-buses net rs (length (map f rules))
-      ∙ ap (rows_to net rs) (length-map rules f)
+  pub rows-shown : rows_of net (orders_of net (ranked_of rs)) ≡ rows_to net rs (length rules)
+  rows-shown = ap (rows_of net) (orders-are (bus_numbers (length rules))) ∙ rows_of-buses net rs (length rules)
 
   -- the rows of all buses are written
-  pub all-written : {S : Type 0} (f : S → Meaning) (rules : List S) (gateway k at : ℕ) (rows₀ rows : List Row) → k ≡ length rules →
-      let net = net_of (board_of (map f rules) gateway ms) in
+  pub all-written : (k at : ℕ) (rows₀ rows : List Row) → k ≡ length rules → Filled net rs k at rows₀ rows →
       let shown = rows_of net (orders_of net (ranked_of rs)) in
-      at ≡ length (rows_to net rs k) → rows ≡ rows_to net rs k ++ drop at rows₀ → (at ≡ length shown) × (rows ≡ shown ++ drop at rows₀)
-  all-written f rules gateway k at rows₀ rows end here was =
-      let net = net_of (board_of (map f rules) gateway ms) in
-      let e = ap (rows_to net rs) end ∙ sym (rows-shown f rules gateway) in
-      (here ∙ ap length e, was ∙ ap (λ l. l ++ drop at rows₀) e)
+      (at ≡ length shown) × (rows ≡ shown ++ drop at rows₀)
+  all-written k at rows₀ rows end was =
+      let e = ap (rows_to net rs) end ∙ sym rows-shown in
+      (was.0 ∙ ap length e, was.1 ∙ ap (λ l. l ++ drop at rows₀) e)
 
   -- where every ranked leg is on one of the buses, as many are shown as are ranked
-  pub shown-count : {S : Type 0} (f : S → Meaning) (rules : List S) (gateway : ℕ) → every (on_first (length rules)) rs ≡ true →
-      let net = net_of (board_of (map f rules) gateway ms) in
-      length (rows_of net (orders_of net (ranked_of rs))) ≡ length rs
-  shown-count f rules gateway on =
-      ap length (rows-shown f rules gateway) ∙ rows-are_all (net_of (board_of (map f rules) gateway ms)) rs (length rules) on
+  pub shown-count : every (on_first (length rules)) rs ≡ true → length (rows_of net (orders_of net (ranked_of rs))) ≡ length rs
+  shown-count on = ap length rows-shown ∙ rows-are_all net rs (length rules) on

@@ -1,5 +1,5 @@
 -- Each of the messages is found by its number.
-use Rattle.std.proofs.Common.{◌≡◌, ℕ, zero, suc, ◌<◌, true, eqb, ltb, List, [], ◌∷◌, length, get_or, Some, sym, ap, ◌∙◌, inl, inr, arith}
+use Rattle.std.proofs.Common.{◌≡◌, ℕ, ◌<◌, true, eqb, ltb, List, [], ◌∷◌, Some, ap, ◌∙◌, inl, inr, arith}
 use Rattle.std.proofs.lemmas.Bool.{and_parts, ltb-true, eq-eqb, ne_eqb, cond-true, cond-false}
 use Rattle.bus.specs.declared.message.Message.{Message}
 use Rattle.search.proofs.Lists.{Among}
@@ -25,9 +25,3 @@ among-from k (x ∷ xs) m h a =
 
 pub message_among : (ms : List Message) (m : Message) → rising_messages ms ≡ true → Among m ms → message_of ms m.number ≡ Some m
 message_among ms m h a = among-from 0 ms m h a
-
--- what a loop reads is an element
-pub read_among : {X : Type 0} (xs : List X) (i : ℕ) (x : X) → i < length xs → x ≡ get_or xs i x → Among x xs
-read_among [] i x h e = absurd (omega arith)
-read_among (y ∷ ys) zero x h e = inl (sym e)
-read_among (y ∷ ys) (suc i) x h e = inr (read_among ys i x (omega arith) e)

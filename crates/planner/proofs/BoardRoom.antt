@@ -21,16 +21,16 @@ at_most_one None = omega arith
 at_most_one (Some x) = omega arith
 
 -- a message has at most one leg on a bus
-legs_no_more : (ms : List Message) (bus : ℕ) → length (legs_on ms bus) ≤ length ms
-legs_no_more [] bus = omega arith
-legs_no_more (m ∷ ms) bus =
-    omega (arith, length-append (option_to_list (leg_on m bus)) (legs_on ms bus), at_most_one (leg_on m bus), legs_no_more ms bus)
+pub few_legs : (ms : List Message) (bus : ℕ) → length (legs_on ms bus) ≤ length ms
+few_legs [] bus = omega arith
+few_legs (m ∷ ms) bus =
+    omega (arith, length-append (option_to_list (leg_on m bus)) (legs_on ms bus), at_most_one (leg_on m bus), few_legs ms bus)
 
 module _ (ms : List Message) (rises : rising_messages ms ≡ true) where
   legs_on-buses : (k n : ℕ) → leg_count (map (net_legs ms) (numbers_from k n)) ≤ 64 * n
   legs_on-buses k zero = omega arith
   legs_on-buses k (suc n) =
-      omega (arith, legs_on-buses (suc k) n, length-map (legs_on ms k) (net_leg k), legs_no_more ms k, rising-few ms rises)
+      omega (arith, legs_on-buses (suc k) n, length-map (legs_on ms k) (net_leg k), few_legs ms k, rising-few ms rises)
 
   pub room_for_one : (count : ℕ) (rs : List Ranked) → count ≤ 8 → placed (layout count ms) (ranked_of rs) ≡ true → (x : Leg) →
       has x (place_of (layout count ms) (ranked_of rs)).open' ≡ true → length rs < 512

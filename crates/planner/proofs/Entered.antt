@@ -1,5 +1,5 @@
--- One message more: the messages still rise and are on the board, and what has which number.
-use Rattle.std.proofs.Common.{◌≡◌, ℕ, ◌+◌, ◌<◌, Bool, true, List, [], ◌∷◌, length, Some, None, refl, ap, ◌∙◌, arith}
+-- One message more: the messages still rise and are on the board, and there was room for it.
+use Rattle.std.proofs.Common.{◌≡◌, ℕ, ◌+◌, ◌<◌, Bool, true, List, [], ◌∷◌, length, None, refl, ap, ◌∙◌, arith}
 use Rattle.std.proofs.lemmas.Bool.Decides.{nat_tests}
 use Rattle.bus.specs.declared.message.Message.{Message}
 use Rattle.search.specs.Lists.{every}
@@ -13,7 +13,7 @@ module _ (m : Message) where
   entered_from k [] low h free = grind (arith, nat_tests)
   entered_from k (x ∷ xs) low h free = grind (arith, nat_tests, entered_from x.number xs)
 
-  pub length_entered : (ms : List Message) → length (entered m ms) ≡ length ms + 1
+  length_entered : (ms : List Message) → length (entered m ms) ≡ length ms + 1
   length_entered [] = refl
   length_entered (x ∷ xs) = grind (arith, nat_tests, length_entered xs)
 
@@ -23,14 +23,6 @@ module _ (m : Message) where
 
   pub every-after : (f : Message → Bool) (ms after : List Message) → after ≡ entered m ms → f m ≡ true → every f ms ≡ true → every f after ≡ true
   every-after f ms after e here h = ap (every f) e ∙ every-entered f ms here h
-
-  pub message_of-entered : (ms : List Message) → message_of ms m.number ≡ None → message_of (entered m ms) m.number ≡ Some m
-  message_of-entered [] free = grind (arith, nat_tests)
-  message_of-entered (x ∷ xs) free = grind (arith, nat_tests, message_of-entered xs)
-
-  pub message_of-entered_other : (k : ℕ) (ms : List Message) → (k ≡ m.number → ⊥) → message_of (entered m ms) k ≡ message_of ms k
-  message_of-entered_other k [] other = grind (arith, nat_tests)
-  message_of-entered_other k (x ∷ xs) other = grind (arith, nat_tests, message_of-entered_other k xs)
 
   pub entered-rises : (ms : List Message) → rising_messages ms ≡ true → message_of ms m.number ≡ None → rising_messages (entered m ms) ≡ true
   entered-rises ms h free = entered_from 0 ms (omega arith) h free

@@ -1,10 +1,9 @@
 -- What list and look answer, as a log has it.
-use Rattle.std.proofs.Common.{◌≡◌, ℕ, ◌<◌, ◌≤◌, Bool, true, false, not, ◌&&◌, leb, List, ◌++◌, length, take, drop, is_some, Some, None, sym, refl, ap, ◌∙◌, subst}
+use Rattle.std.proofs.Common.{◌≡◌, ℕ, ◌<◌, ◌≤◌, Bool, true, false, not, ◌&&◌, leb, List, ◌++◌, length, take, drop, is_some, Some, None, sym, refl, ap, ◌∙◌}
 use Rattle.std.proofs.lemmas.List.{take_at}
 use Rattle.std.proofs.lemmas.Bool.{and_parts, not-true, not-false, leb-true, lt-ltb, le-ltb, false≢true}
 use Rattle.bus.specs.Range.{inside, buses, numbers}
 use Rattle.bus.specs.declared.message.Message.{Message}
-use Rattle.bus.specs.declared.refusal.Refusal.{Refusal}
 use Rattle.bus.specs.declared.refusal.Refusal.TheVariants.{Range, NoBus, NoLeg, NotFound, FewRows}
 use Rattle.search.specs.Net.{Leg}
 use Rattle.search.specs.Stored as walk
@@ -30,12 +29,37 @@ complete_is (Testing x) e = absurd (false≢true e)
 complete_is Complete e = refl
 complete_is Exhausted e = absurd (false≢true e)
 
+-- what is tested of a look before it matters whether the walk has ended
+pub record LookTests (count : ℕ) (ms : List Message) (bus n : ℕ) : Type 0 where
+  pub low : 1 ≤ bus
+  pub high : bus ≤ count
+  pub leg : is_some (leg_from bus (message_of ms n)) ≡ true
+
+pub look_tests : (count : ℕ) (ms : List Message) (bus n : ℕ) → look_fault count ms true bus n ≡ None → LookTests count ms bus n
+look_tests count ms bus n e =
+    let range = not_refused (not (inside buses bus && inside numbers n)) Range _ e in
+    let board = not_refused (not (leb bus count)) NoBus _ range.1 in
+    let leg = not_refused (not (is_some (leg_from bus (message_of ms n)))) NoLeg _ board.1 in
+    let bounds = and_parts (inside buses bus) (inside numbers n) (not-false _ range.0) in
+    record {
+      low = leb-true 1 bus (and_parts (leb 1 bus) (leb bus 8) bounds.0).0;
+      high = leb-true bus count (not-false _ board.0);
+      leg = not-false _ leg.0;
+    }
+
+look_unfound : (count : ℕ) (ms : List Message) (bus n : ℕ) → look_fault count ms true bus n ≡ None → look_fault count ms false bus n ≡ Some NotFound
+look_unfound count ms bus n e =
+    let range = not_refused (not (inside buses bus && inside numbers n)) Range _ e in
+    let board = not_refused (not (leb bus count)) NoBus _ range.1 in
+    let leg = not_refused (not (is_some (leg_from bus (message_of ms n)))) NoLeg _ board.1 in
+    rw (range.0, board.0, leg.0) refl
+
 module _ (b : Board) (sound : Sound b) (rs : List Ranked) where
   abbrev at : Stage → Standing
   at s = record { board = b; left = walk.left (net_of b) (stage_of (net_of b) rs s) }
 
   -- not found where there are no messages, or the walk is not complete
-  pub not_found : (s : Stage) → (not (is_none b.messages) && is_complete s) ≡ false → found_orders (at s) ≡ None
+  not_found : (s : Stage) → (not (is_none b.messages) && is_complete s) ≡ false → found_orders (at s) ≡ None
   not_found s e = go (is_none b.messages) refl s e
     where
       go : (t : Bool) → is_none b.messages ≡ t → (s : Stage) → (not t && is_complete s) ≡ false → found_orders (at s) ≡ None
@@ -76,40 +100,9 @@ module _ (b : Board) (sound : Sound b) (rs : List Ranked) where
         (ap (λ o. look_fault (bus_count b) b.messages (is_some o) bus n) found ∙ none)
         (os, found, r, row, refl, refl)
 
-  -- a look that is refused, where it is known whether the walk has ended with found
-  pub look_refused : (s : Stage) (known : Bool) (bus n : ℕ) (f : Refusal) → is_some (found_orders (at s)) ≡ known →
-      look_fault (bus_count b) b.messages known bus n ≡ Some f → Gives (at s) (look bus n) (refused f) (at s)
-  look_refused s known bus n f e some =
-      unless-some (look_fault (bus_count b) b.messages (is_some (found_orders (at s))) bus n) (at s) (at s) _ f
-      (ap (λ k. look_fault (bus_count b) b.messages k bus n) e ∙ some) refl
-
-  pub known-found : (s : Stage) → walk.placed_at (net_of b) (stage_of (net_of b) rs s) ≡ true →
-      is_some (found_orders (at s)) ≡ (not (is_none b.messages) && is_complete s)
-  known-found s placed = go (not (is_none b.messages) && is_complete s) refl
-    where
-      go : (t : Bool) → (not (is_none b.messages) && is_complete s) ≡ t → is_some (found_orders (at s)) ≡ t
-      go true e =
-          let done = complete_is s (and_parts (not (is_none b.messages)) (is_complete s) e).1 in
-          ap is_some (is_found_lem s e (subst (λ x. walk.placed_at (net_of b) (stage_of (net_of b) rs x) ≡ true) done placed))
-      go false e = ap is_some (not_found s e)
-
--- what an accepted look has tested
-pub record LookTests (count : ℕ) (ms : List Message) (found : Bool) (bus n : ℕ) : Type 0 where
-  pub low : 1 ≤ bus
-  pub high : bus ≤ count
-  pub leg : is_some (leg_from bus (message_of ms n)) ≡ true
-  pub is : found ≡ true
-
-pub look_tests : (count : ℕ) (ms : List Message) (found : Bool) (bus n : ℕ) → look_fault count ms found bus n ≡ None → LookTests count ms found bus n
-look_tests count ms found bus n e =
-    let range = not_refused (not (inside buses bus && inside numbers n)) Range _ e in
-    let board = not_refused (not (leb bus count)) NoBus _ range.1 in
-    let leg = not_refused (not (is_some (leg_from bus (message_of ms n)))) NoLeg _ board.1 in
-    let end = not_refused (not found) NotFound _ leg.1 in
-    let bounds = and_parts (inside buses bus) (inside numbers n) (not-false _ range.0) in
-    record {
-      low = leb-true 1 bus (and_parts (leb 1 bus) (leb bus 8) bounds.0).0;
-      high = leb-true bus count (not-false _ board.0);
-      leg = not-false _ leg.0;
-      is = not-false _ end.0;
-    }
+  -- a look at a leg that has no place yet
+  pub look_not_found : (s : Stage) (bus n : ℕ) → (not (is_none b.messages) && is_complete s) ≡ false →
+      look_fault (bus_count b) b.messages true bus n ≡ None → Gives (at s) (look bus n) (refused NotFound) (at s)
+  look_not_found s bus n e none =
+      unless-some (look_fault (bus_count b) b.messages (is_some (found_orders (at s))) bus n) (at s) (at s) _ NotFound
+      (ap (λ o. look_fault (bus_count b) b.messages (is_some o) bus n) (not_found s e) ∙ look_unfound (bus_count b) b.messages bus n none) refl

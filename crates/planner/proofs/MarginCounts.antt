@@ -1,7 +1,9 @@
 -- How many rows the margins take: whatever the orders, one for a local message, else one for each destination.
-use Rattle.std.proofs.Common.{◌≡◌, ℕ, ◌+◌, ◌*◌, ◌≤◌, Bool, true, false, cond, List, [], ◌∷◌, length, sym, refl, ◌∙◌, arith, length-append}
-use Rattle.std.specs.List.{flat_map, filter}
+use Rattle.std.proofs.Common.{◌≡◌, ◌*◌, ◌≤◌, Bool, true, false, cond, List, [], ◌∷◌, length, sym, refl, ◌∙◌, subst, arith}
+use Rattle.std.specs.List.{sum_by}
 use Rattle.std.proofs.lemmas.List.{length-map}
+use Rattle.std.proofs.lemmas.List.Concat.{length-flat_map}
+use Rattle.std.proofs.lemmas.List.Sums.{count_by-le-length, length-filter, sum_by-cons}
 use Rattle.bus.specs.Numbered.{member}
 use Rattle.bus.specs.declared.message.Message.{Message}
 use Rattle.search.specs.Net.{Leg, Net}
@@ -20,29 +22,17 @@ margins_length net os m = go (is_local m) _ _ (length-map (destinations_of m) _)
     go false a b e = e
 
 -- the rows of all messages
-abbrev pub rows_for_all : List Message → ℕ
-rows_for_all [] = 0
-rows_for_all (m ∷ ms) = rows_for m + rows_for_all ms
-
-all-length : (net : Net) (os : List (List Leg)) (ms : List Message) → length (flat_map (margins_of net os) ms) ≡ rows_for_all ms
-all-length net os [] = refl
-all-length net os (m ∷ ms) =
-    omega (arith, length-append (margins_of net os m) (flat_map (margins_of net os) ms), margins_length net os m, all-length net os ms)
-
-pub margins_count : (b : Board) (os : List (List Leg)) → length (margin_rows b os) ≡ rows_for_all b.messages
-margins_count b os = all-length (net_of b) os b.messages
+pub margins_count : (b : Board) (os : List (List Leg)) → length (margin_rows b os) ≡ sum_by rows_for b.messages
+margins_count b os = length-flat_map (margins_of (net_of b) os) b.messages ∙ (λ i. sum_by (λ m. margins_length (net_of b) os m i) b.messages)
 
 -- the orders do not count
 pub margins_as_many : (b : Board) (os : List (List Leg)) → length (margin_rows b os) ≡ margin_count b
 margins_as_many b os = margins_count b os ∙ sym (margins_count b [])
 
 -- ---------------------------------------------------------------- they are few
-kept-few : {X : Type 0} (f : X → Bool) (xs : List X) → length (filter f xs) ≤ length xs
-kept-few f [] = omega arith
-kept-few f (x ∷ xs) = grind (arith, kept-few f xs)
-
-pub destinations_few : (m : Message) → length (destinations_of m) ≤ 8
-destinations_few m = kept-few (member m.destinations) (bus_numbers 8)
+destinations_few : (m : Message) → length (destinations_of m) ≤ 8
+destinations_few m =
+    subst (λ n. n ≤ 8) (sym (length-filter (member m.destinations) (bus_numbers 8))) (count_by-le-length (member m.destinations) (bus_numbers 8))
 
 rows_few : (m : Message) → rows_for m ≤ 8
 rows_few m = go (is_local m)
@@ -51,6 +41,6 @@ rows_few m = go (is_local m)
     go true = omega arith
     go false = destinations_few m
 
-pub all-few : (ms : List Message) → rows_for_all ms ≤ 8 * length ms
+pub all-few : (ms : List Message) → sum_by rows_for ms ≤ 8 * length ms
 all-few [] = omega arith
-all-few (m ∷ ms) = omega (arith, rows_few m, all-few ms)
+all-few (m ∷ ms) = omega (arith, sum_by-cons rows_for m ms, rows_few m, all-few ms)

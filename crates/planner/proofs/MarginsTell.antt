@@ -2,6 +2,7 @@
 use Rattle.std.proofs.Common.{◌≡◌, ℕ, Bool, true, false, not, ◌&&◌, List, [], ◌∷◌, ◌++◌, map, is_some, Some, None, Option, sym, refl, ap, ◌∙◌, inl, inr, arith}
 use Rattle.std.specs.List.{flat_map, filter, AllByRecursion}
 use Rattle.std.proofs.lemmas.Int.{ints}
+use Rattle.std.proofs.Math.Bool.{and_assoc}
 use Rattle.std.proofs.lemmas.Bool.{cases_Bool, cond-true, cond-false}
 use Rattle.std.proofs.lemmas.Bool.Decides.{nat_tests}
 use Rattle.bus.specs.declared.message.Message.{Message}
@@ -66,10 +67,6 @@ module _ (net : Net) (os : List (List Leg)) where
   and_turned false true c = refl
   and_turned false false c = refl
 
-  and_grouped : (a b c : Bool) → (a && (b && c)) ≡ ((a && b) && c)
-  and_grouped true b c = refl
-  and_grouped false b c = refl
-
   all-met : (ms : List Message) → Within ms → none_below (flat_map (margins_of net os) ms) ≡ (locals_met ms && pairs_met ms)
   all-met [] h = refl
   all-met (m ∷ ms) h =
@@ -88,7 +85,7 @@ module _ (net : Net) (os : List (List Leg)) where
             split
             ∙ ap (λ u. u && none_below (flat_map (margins_of net os) ms)) own
             ∙ ap (λ u. is_some (delays net os (source_leg m)) && u) rest
-            ∙ and_grouped _ (locals_met ms) (pairs_met ms)
+            ∙ sym (and_assoc _ (locals_met ms) (pairs_met ms))
             ∙ sym (ap (λ u. u && pairs_met (m ∷ ms)) here ∙ ap (λ u. (is_some (delays net os (source_leg m)) && locals_met ms) && u) none)
         | inr t ↦
             let own : none_below (margins_of net os m) ≡ every (met net (delays net os)) (pairs_of m) =

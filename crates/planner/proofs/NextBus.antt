@@ -71,11 +71,6 @@ buses-more count ms k le =
     ap (λ n. map (net_legs ms) (numbers_from k n)) more
     ∙ ap₂ (λ i n. net_legs ms k ∷ map (net_legs ms) (numbers_from i n)) (sym (add-one k)) rest
 
-pub buses-all : (count : ℕ) (ms : List Message) → (layout count ms).buses ≡ buses_from count ms 1
-buses-all count ms =
-    let e : count ≡ count + 1 - 1 = omega arith in
-    ap (λ n. map (net_legs ms) (numbers_from 1 n)) e
-
 buses-none : (count : ℕ) (ms : List Message) (k : ℕ) → count < k → buses_from count ms k ≡ []
 buses-none count ms k lt =
     let e : count + 1 - k ≡ 0 = omega arith in

@@ -81,7 +81,7 @@ order-part x [] l h m = grind arith
 order-part x (y ∷ o) l h m = grind (arith, order-part x o (less y l), has-less y x l, same-tells x y)
 
 -- ---------------------------------------------------------------- as a fact
-none_left : (l : List Leg) → is_empty l ≡ true → l ≡ []
+pub none_left : (l : List Leg) → is_empty l ≡ true → l ≡ []
 none_left [] h = refl
 none_left (x ∷ l) h = absurd (true≢false (sym h))
 

@@ -1,4 +1,4 @@
--- A delay in whatever orders is at most the deadline of its message.
+-- A delay in whatever orders is at most the deadline of its message, and so at most ten seconds.
 use Rattle.std.proofs.Common.{◌≡◌, ℕ, zero, suc, ◌≤◌, Bool, true, false, cond, eqb, List, [], ◌∷◌, Some, None, Option, sym, refl, ap, ◌∙◌, inl, inr, arith}
 use Rattle.std.specs.List.{AllByRecursion}
 use Rattle.std.proofs.lemmas.Bool.{cond-true, cond-false, cases_Bool}
@@ -59,31 +59,37 @@ module _ (b : Board) (x : Leg) (d : ℕ) where
         | inr t ↦ by_rule os (sym (cond-false (has x o) _ _ t) ∙ e)
       ]
 
-module _ (b : Board) (keeps : AllByRecursion Keeps b.rules) (rise : rising_messages b.messages ≡ true) (m : Message) (here : message_of b.messages m.number ≡ Some m) where
-  -- the leg that a rule is shown is the message's
-  its_leg : (bus : ℕ) → leg_of (legs_on b.messages bus) m.number ≡ leg_on m bus
-  its_leg bus = legs_of_messages b.messages bus m.number rise ∙ ap (leg_from bus) here
+module _ (b : Board) (keeps : AllByRecursion Keeps b.rules) (rise : rising_messages b.messages ≡ true) where
+  -- where the deadline of the leg that a rule is shown is at most so long, its delay is too
+  bounded-by : (limit bus n d : ℕ) (h : ℕ → Bool) (o : Option BusLeg) → ((leg : BusLeg) → o ≡ Some leg → leg.message.deadline ≤ limit) → leg_of (legs_on b.messages bus) n ≡ o →
+      rule_at b.rules bus (legs_on b.messages bus) n h ≡ Some d → d ≤ limit
+  bounded-by limit bus n d h None own at e =
+      no_delay d (sym (rule_absent b.rules keeps bus (legs_on b.messages bus) n h (legs_rise b.messages bus rise) at) ∙ e)
+  bounded-by limit bus n d h (Some leg) own at e =
+      omega (arith, own leg refl, rule_bounded b.rules keeps bus (legs_on b.messages bus) n h leg d (legs_rise b.messages bus rise) at e)
 
-  bounded-by : (bus d : ℕ) (h : ℕ → Bool) (o : Option BusLeg) → ((leg : BusLeg) → o ≡ Some leg → leg.message.deadline ≡ m.deadline) → leg_of (legs_on b.messages bus) m.number ≡ o →
-      rule_at b.rules bus (legs_on b.messages bus) m.number h ≡ Some d → d ≤ m.deadline
-  bounded-by bus d h None own at e =
-      no_delay d (sym (rule_absent b.rules keeps bus (legs_on b.messages bus) m.number h (legs_rise b.messages bus rise) at) ∙ e)
-  bounded-by bus d h (Some leg) own at e =
-      omega (arith, own leg refl, rule_bounded b.rules keeps bus (legs_on b.messages bus) m.number h leg d (legs_rise b.messages bus rise) at e)
-
-  own_leg : (bus : ℕ) (leg : BusLeg) → leg_on m bus ≡ Some leg → leg.message.deadline ≡ m.deadline
-  own_leg bus leg e = go (eqb bus m.source) (member m.destinations bus) e
+  limited : (limit bus n : ℕ) (o : Option BusLeg) → ((leg : BusLeg) → o ≡ Some leg → leg.message.deadline ≤ limit) → leg_of (legs_on b.messages bus) n ≡ o →
+      (os : List (List Leg)) → AtMost limit (delays (net_of b) os (leg_at bus n))
+  limited limit bus n o own at os = go (delays (net_of b) os (leg_at bus n)) refl
     where
-      go : (s t : Bool) → cond s (Some (record { message = m; source = true })) (cond t (Some (record { message = m; source = false })) None) ≡ Some leg → leg.message.deadline ≡ m.deadline
-      go true t e = ap (λ l. l.message.deadline) (sym (same-leg e))
-      go false true e = ap (λ l. l.message.deadline) (sym (same-leg e))
-      go false false e = none-leg leg e
-
-  pub own_delay : (os : List (List Leg)) (bus : ℕ) → AtMost m.deadline (delays (net_of b) os (leg_at bus m.number))
-  own_delay os bus = go (delays (net_of b) os (leg_at bus m.number)) refl
-    where
-      go : (o : Option ℕ) → delays (net_of b) os (leg_at bus m.number) ≡ o → AtMost m.deadline o
+      go : (r : Option ℕ) → delays (net_of b) os (leg_at bus n) ≡ r → AtMost limit r
       go None e = tt
-      go (Some d) e =
-          let by = by_rule b (leg_at bus m.number) d os e in
-          bounded-by bus d by.0 (leg_on m bus) (own_leg bus) (its_leg bus) by.1
+      go (Some d) e = let by = by_rule b (leg_at bus n) d os e in bounded-by limit bus n d by.0 o own at by.1
+
+  -- whatever the message, a delay is at most ten seconds
+  pub delay_small : (os : List (List Leg)) (bus n : ℕ) → AtMost 10000000000 (delays (net_of b) os (leg_at bus n))
+  delay_small os bus n =
+      limited 10000000000 bus n (leg_of (legs_on b.messages bus) n) (λ leg e. omega (arith, leg.message.deadline_range.1, leg.message.period_range.1)) refl os
+
+  -- the leg that a rule is shown is the message's
+  pub own_delay : (m : Message) → message_of b.messages m.number ≡ Some m → (os : List (List Leg)) (bus : ℕ) → AtMost m.deadline (delays (net_of b) os (leg_at bus m.number))
+  own_delay m here os bus =
+      limited m.deadline bus m.number (leg_on m bus) (λ leg e. omega (arith, own_leg leg e)) (legs_of_messages b.messages bus m.number rise ∙ ap (leg_from bus) here) os
+    where
+      own_leg : (leg : BusLeg) → leg_on m bus ≡ Some leg → leg.message.deadline ≡ m.deadline
+      own_leg leg e = go (eqb bus m.source) (member m.destinations bus) e
+        where
+          go : (s t : Bool) → cond s (Some (record { message = m; source = true })) (cond t (Some (record { message = m; source = false })) None) ≡ Some leg → leg.message.deadline ≡ m.deadline
+          go true t e = ap (λ l. l.message.deadline) (sym (same-leg e))
+          go false true e = ap (λ l. l.message.deadline) (sym (same-leg e))
+          go false false e = none-leg leg e

@@ -8,37 +8,32 @@ use Rattle.planner.specs.Spots.{Written}
 use Rattle.planner.specs.declared.rows.Margin.{Margin}
 use Rattle.planner.proofs.DestinationLoop.{destinations_from, destinations_first, destinations_none, destinations_here, destinations_pass}
 use Rattle.planner.proofs.Fronts.{Writing, writing-none, writing_more, writing-done}
-use Rattle.planner.proofs.MarginCounts.{destinations_few}
 
 -- the rows from bus i on are still to come
-abbrev pub Pairs : (ℕ → Margin) → Message → List Margin → List Margin → ℕ → ℕ → Type 0
-Pairs row m before now i n = Writing (map row (destinations_from m i)) (map row (destinations_of m)) before now n
+pub record Pairs (row : ℕ → Margin) (m : Message) (before now : List Margin) (i n : ℕ) : Type 0 where
+  pub left : Writing (map row (destinations_from m i)) (map row (destinations_of m)) before now n
 
-module _ (row : ℕ → Margin) (m : Message) (before : List Margin) where
-  pub pairs-begin : Pairs row m before before 1 0
-  pairs-begin =
-      subst (λ l. Writing l (map row (destinations_of m)) before before 0) (sym (ap (map row) (destinations_first m))) (writing-none (map row (destinations_of m)) before)
+pub pairs-begin : (row : ℕ → Margin) (m : Message) (before : List Margin) → Pairs row m before before 1 0
+pairs-begin row m before =
+    record { left = subst (λ l. Writing l (map row (destinations_of m)) before before 0) (sym (ap (map row) (destinations_first m))) (writing-none (map row (destinations_of m)) before) }
 
-  module _ (now : List Margin) (i n : ℕ) (w : Pairs row m before now i n) where
-    at_here : i ≤ 8 → true ≡ member m.destinations i → Writing (row i ∷ map row (destinations_from m (i + 1))) (map row (destinations_of m)) before now n
-    at_here h t = subst (λ l. Writing l (map row (destinations_of m)) before now n) (ap (map row) (destinations_here m i h t)) w
+module _ {row : ℕ → Margin} {m : Message} {before now : List Margin} {i n : ℕ} (w : Pairs row m before now i n) where
+  at_here : i ≤ 8 → true ≡ member m.destinations i → Writing (row i ∷ map row (destinations_from m (i + 1))) (map row (destinations_of m)) before now n
+  at_here h t = subst (λ l. Writing l (map row (destinations_of m)) before now n) (ap (map row) (destinations_here m i h t)) w.left
 
-    -- there is room for one row more
-    pub pair-room : i ≤ 8 → true ≡ member m.destinations i → n < length (destinations_of m)
-    pair-room h t = omega (arith, (at_here h t).left, length-map (destinations_of m) row)
+  -- there is room for one row more
+  pub pair-room : i ≤ 8 → true ≡ member m.destinations i → n < length (destinations_of m)
+  pair-room h t = omega (arith, (at_here h t).left, length-map (destinations_of m) row)
 
-    pub pairs-few : n ≤ 8
-    pairs-few = omega (arith, w.left, length-map (destinations_of m) row, destinations_few m)
+  pub pair-written : i ≤ 8 → true ≡ member m.destinations i → n < length now → (v : Margin) → v ≡ row i → Pairs row m before (set now n v) (i + 1) (n + 1)
+  pair-written h t within v e =
+      subst (λ u. Pairs row m before (set now n u) (i + 1) (n + 1)) (sym e)
+      (record { left = writing_more (row i) (map row (destinations_from m (i + 1))) (map row (destinations_of m)) before now n within (at_here h t) })
 
-    pub pair-written : i ≤ 8 → true ≡ member m.destinations i → n < length now → (v : Margin) → v ≡ row i → Pairs row m before (set now n v) (i + 1) (n + 1)
-    pair-written h t within v e =
-        subst (λ u. Pairs row m before (set now n u) (i + 1) (n + 1)) (sym e)
-        (writing_more (row i) (map row (destinations_from m (i + 1))) (map row (destinations_of m)) before now n within (at_here h t))
+  pub pair-passed : i ≤ 8 → false ≡ member m.destinations i → Pairs row m before now (i + 1) n
+  pair-passed h t = record { left = subst (λ l. Writing l (map row (destinations_of m)) before now n) (ap (map row) (destinations_pass m i h t)) w.left }
 
-    pub pair-passed : i ≤ 8 → false ≡ member m.destinations i → Pairs row m before now (i + 1) n
-    pair-passed h t = subst (λ l. Writing l (map row (destinations_of m)) before now n) (ap (map row) (destinations_pass m i h t)) w
-
-    pub pairs_end : 8 < i → Written (map row (destinations_of m)) before now n
-    pairs_end h =
-        writing-done (map row (destinations_of m)) before now n
-        (subst (λ l. Writing l (map row (destinations_of m)) before now n) (ap (map row) (destinations_none m i h)) w)
+  pub pairs_end : 8 < i → Written (map row (destinations_of m)) before now n
+  pairs_end h =
+      writing-done (map row (destinations_of m)) before now n
+      (subst (λ l. Writing l (map row (destinations_of m)) before now n) (ap (map row) (destinations_none m i h)) w.left)

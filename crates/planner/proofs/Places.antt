@@ -1,13 +1,12 @@
--- The place of a number in a list of messages that rise: what stands there, and the list with one more and one less there.
-use Rattle.std.proofs.Common.{◌≡◌, ℕ, ◌<◌, ◌≤◌, Bool, true, cond, List, [], ◌∷◌, length, get_or, None, sym, refl, ap, ◌∙◌, arith}
-use Rattle.std.specs.List.{insert, remove}
+-- The place of a number in a list of messages that rise, and the list with one more there.
+use Rattle.std.proofs.Common.{◌≡◌, ℕ, ◌<◌, ◌≤◌, Bool, true, cond, List, [], ◌∷◌, length, None, refl, ap, ◌∙◌, arith}
+use Rattle.std.specs.List.{insert}
 use Rattle.std.proofs.lemmas.Bool.{cond-true}
 use Rattle.std.proofs.lemmas.Bool.Decides.{nat_tests}
 use Rattle.bus.specs.declared.message.Message.{Message}
-use Rattle.boards.specs.Boards.{message_of, messages_from, rising_messages}
-use Rattle.planner.specs.Messages.{entered, withdrawn, place_of}
-use Rattle.planner.proofs.Rising.{message_of-below}
-use Rattle.planner.proofs.Withdrawn.{withdrawn-none}
+use Rattle.boards.specs.Boards.{message_of, rising_messages}
+use Rattle.planner.specs.Messages.{entered, place_of}
+use Rattle.planner.proofs.Entered.{free_room}
 
 pub place_of-within : (ms : List Message) (n : ℕ) → place_of ms n ≤ length ms
 place_of-within [] n = omega arith
@@ -18,34 +17,7 @@ inserted_at : (m : Message) (ms : List Message) → message_of ms m.number ≡ N
 inserted_at m [] free = refl
 inserted_at m (x ∷ xs) free = grind (arith, nat_tests, inserted_at m xs)
 
-pub inserted_entered : (m : Message) (ms after : List Message) (at : ℕ) (done : Bool) → at ≡ place_of ms m.number → message_of ms m.number ≡ None →
-    after ≡ cond done (insert ms at m) ms → done ≡ true → after ≡ entered m ms
-inserted_entered m ms after at done is free after_is yes-done = after_is ∙ cond-true done _ _ yes-done ∙ ap (λ i. insert ms i m) is ∙ inserted_at m ms free
-
-module _ (n : ℕ) (m : Message) where
-  removed_from : (k : ℕ) (ms : List Message) → messages_from k ms ≡ true → place_of ms n < length ms → m ≡ get_or ms (place_of ms n) m → m.number ≡ n →
-      withdrawn n ms ≡ remove ms (place_of ms n)
-  removed_from k [] h within read here = absurd (omega arith)
-  removed_from k (x ∷ xs) h within read here = grind (arith, nat_tests, removed_from x.number xs, withdrawn-none n xs, message_of-below x.number n xs)
-
-  none_from : (k : ℕ) (ms : List Message) → messages_from k ms ≡ true → m ≡ get_or ms (place_of ms n) m → (m.number ≡ n → ⊥) → message_of ms n ≡ None
-  none_from k [] h read other = refl
-  none_from k (x ∷ xs) h read other = grind (arith, nat_tests, none_from x.number xs, message_of-below x.number n xs)
-
--- where all numbers are smaller
-none-past : (n : ℕ) (ms : List Message) → length ms ≤ place_of ms n → message_of ms n ≡ None
-none-past n [] h = refl
-none-past n (x ∷ xs) h = grind (arith, nat_tests, none-past n xs)
-
-module _ (n : ℕ) (ms : List Message) (rises : rising_messages ms ≡ true) (at : ℕ) (is : at ≡ place_of ms n) where
-  -- the number's message stands at its place
-  pub removed_withdrawn : (m : Message) (after : List Message) → at < length ms → m ≡ get_or ms at m → m.number ≡ n → after ≡ remove ms at → after ≡ withdrawn n ms
-  removed_withdrawn m after within read here after_is =
-      after_is ∙ ap (remove ms) is ∙ sym (removed_from n m 0 ms rises (rw is at within) (rw is at read) here)
-
-  -- another stands there, or none: the number has no message
-  pub withdrawn-other : (m : Message) → m ≡ get_or ms at m → (m.number ≡ n → ⊥) → ms ≡ withdrawn n ms
-  withdrawn-other m read other = sym (withdrawn-none n ms (none_from n m 0 ms rises (rw is at read) other))
-
-  pub withdrawn-past : length ms ≤ at → ms ≡ withdrawn n ms
-  withdrawn-past past = sym (withdrawn-none n ms (none-past n ms (rw is at past)))
+pub inserted_entered : (m : Message) (ms after : List Message) (at : ℕ) (done : Bool) → rising_messages ms ≡ true → message_of ms m.number ≡ None →
+    at ≡ place_of ms m.number → (length ms < 64 → done ≡ true) → after ≡ cond done (insert ms at m) ms → after ≡ entered m ms
+inserted_entered m ms after at done rises free is room after_is =
+    after_is ∙ cond-true done _ _ (room (free_room m ms rises free)) ∙ ap (λ i. insert ms i m) is ∙ inserted_at m ms free

@@ -1,10 +1,9 @@
 -- Ranked legs that are legs of the board: their numbers go from 1 to 64, and on a bus there are at most 64.
-use Rattle.std.proofs.Common.{◌≡◌, ℕ, zero, suc, ◌<◌, ◌≤◌, Bool, true, false, not, leb, List, [], ◌∷◌, ◌++◌, map, length, get_or, Some, None, Option, sym, refl, ap, subst, inl, inr, arith}
+use Rattle.std.proofs.Common.{◌≡◌, ℕ, ◌≤◌, Bool, true, false, not, leb, List, [], ◌∷◌, ◌++◌, map, length, sym, refl, ap, ◌∙◌, subst, inl, inr, arith}
 use Rattle.std.specs.List.{filter}
-use Rattle.std.specs.Option.{option_to_list}
 use Rattle.std.proofs.lemmas.List.{length-map}
 use Rattle.std.proofs.lemmas.Bool.{and_parts, and_from, not-true, or_cases, le-leb, true≢false, cases_Bool}
-use Rattle.bus.specs.Legs.{leg_on, legs_on}
+use Rattle.bus.specs.Legs.{legs_on}
 use Rattle.bus.specs.Range.{inside, numbers}
 use Rattle.bus.specs.declared.leg.Leg.{Leg as BusLeg}
 use Rattle.bus.specs.declared.message.Message.{Message}
@@ -15,13 +14,13 @@ use Rattle.search.proofs.Legs.{same-equal, has-less, less-shorter}
 use Rattle.boards.specs.Nets.{net_leg, net_legs}
 use Rattle.planner.specs.BusOrders.{leg_of_rank, are_legs, order_on}
 use Rattle.planner.specs.declared.ranked.Ranked.{Ranked}
+use Rattle.planner.proofs.BoardRoom.{few_legs}
 use Rattle.planner.proofs.StoredOrders.{kept-order}
 
 -- ---------------------------------------------------------------- numbers
-every-get_or : {X : Type 0} (f : X → Bool) (xs : List X) (i : ℕ) (d : X) → i < length xs → every f xs ≡ true → f (get_or xs i d) ≡ true
-every-get_or f [] i d within h = absurd (omega arith)
-every-get_or f (x ∷ xs) zero d within h = (and_parts (f x) (every f xs) h).0
-every-get_or f (x ∷ xs) (suc i) d within h = every-get_or f xs i d (omega arith) (and_parts (f x) (every f xs) h).1
+every-middle : {X : Type 0} (f : X → Bool) (a b : List X) (x : X) → every f (a ++ (x ∷ b)) ≡ true → f x ≡ true
+every-middle f [] b x h = (and_parts (f x) (every f b) h).0
+every-middle f (y ∷ a) b x h = every-middle f a b x (and_parts (f y) (every f (a ++ (x ∷ b))) h).1
 
 number_of : (bus : ℕ) (x : Leg) (legs : List BusLeg) → has x (map (net_leg bus) legs) ≡ true → inside numbers x.message ≡ true
 number_of bus x [] h = absurd (true≢false (sym h))
@@ -34,11 +33,10 @@ number_of bus x (y ∷ ys) h =
       | inr m ↦ number_of bus x ys m
     ]
 
-pub ranked-number : (ms : List Message) (rs : List Ranked) (i : ℕ) (d : Ranked) → i < length rs → are_legs ms rs ≡ true →
-    inside numbers (get_or rs i d).message ≡ true
-ranked-number ms rs i d within legs =
-    let r = get_or rs i d in
-    number_of r.bus (leg_of_rank r) (legs_on ms r.bus) (every-get_or (λ (v : Ranked). has (leg_of_rank v) (net_legs ms v.bus)) rs i d within legs)
+pub ranked-number : (ms : List Message) (rs a : List Ranked) (r : Ranked) (b : List Ranked) → a ++ (r ∷ b) ≡ rs → are_legs ms rs ≡ true →
+    inside numbers r.message ≡ true
+ranked-number ms rs a r b all legs =
+    number_of r.bus (leg_of_rank r) (legs_on ms r.bus) (every-middle (λ (v : Ranked). has (leg_of_rank v) (net_legs ms v.bus)) a b r (ap (are_legs ms) all ∙ legs))
 
 -- ---------------------------------------------------------------- how many there are on a bus
 kept_less : (x : Leg) (o l : List Leg) → has x o ≡ false → filter (λ y. has y l) o ≡ filter (λ y. has y (less x l)) o
@@ -46,7 +44,7 @@ kept_less x [] l h = refl
 kept_less x (y ∷ o) l h = grind (arith, kept_less x o l, has-less x y l)
 
 -- legs of a list, none of which stands twice, are no more than the list has
-pub few_kept : (o l : List Leg) → distinct o ≡ true → length (filter (λ y. has y l) o) ≤ length l
+few_kept : (o l : List Leg) → distinct o ≡ true → length (filter (λ y. has y l) o) ≤ length l
 few_kept [] l h = omega arith
 few_kept (x ∷ o) l h =
     let both = and_parts (not (has x o)) (distinct o) h in
@@ -57,14 +55,6 @@ few_kept (x ∷ o) l h =
           rw e (omega (arith, ap length others, less-shorter x l e))
       | inr e ↦ rw e (few_kept o l both.1)
     ]
-
-few_legs : (ms : List Message) (bus : ℕ) → length (legs_on ms bus) ≤ length ms
-few_legs [] bus = omega arith
-few_legs (m ∷ ms) bus = one (leg_on m bus) (legs_on ms bus) (length ms) (few_legs ms bus)
-  where
-    one : (o : Option BusLeg) (legs : List BusLeg) (n : ℕ) → length legs ≤ n → length (option_to_list o ++ legs) ≤ suc n
-    one None legs n h = omega arith
-    one (Some x) legs n h = omega arith
 
 pub few_on_bus : (ms : List Message) (rs : List Ranked) (bus : ℕ) → length ms ≤ 64 → are_legs ms rs ≡ true → distinct (map leg_of_rank rs) ≡ true →
     length (order_on rs bus) ≤ 64

@@ -1,50 +1,15 @@
 -- The ranked legs that belong to a walk of a board are legs of the board, each once; where the walk is complete they are all its legs.
-use Rattle.std.proofs.Common.{◌≡◌, ℕ, Bool, true, false, not, ◌&&◌, ◌||◌, List, [], ◌∷◌, ◌++◌, map, reverse, is_some, None, sym, refl, ap, ◌∙◌, arith}
-use Rattle.std.proofs.lemmas.List.{reverse-append}
+use Rattle.std.proofs.Common.{◌≡◌, ℕ, Bool, true, false, not, ◌&&◌, ◌||◌, List, [], ◌∷◌, map, is_some, None, sym, refl, ap, ◌∙◌, arith}
 use Rattle.std.proofs.lemmas.Bool.{and_parts, and_from, or_left, or_right, false≢true, not_from_false}
 use Rattle.std.specs.List.{filter}
 use Rattle.search.specs.Lists.{every}
-use Rattle.search.specs.Net.{Leg, same, Net, has, has_any}
+use Rattle.search.specs.Net.{Leg, Net, has, has_any}
 use Rattle.search.specs.Laws.{Apart}
 use Rattle.search.specs.Stored as walk
 use Rattle.search.proofs.Filled.{open-as_stored}
 use Rattle.search.proofs.Legs.{same-turned, has_kept}
 use Rattle.search.proofs.Place.{was_open, placed_below, was_unranked}
-
--- ---------------------------------------------------------------- lists the other way round
-pub reverse_cons : {X : Type 0} (x : X) (xs : List X) → reverse (x ∷ xs) ≡ reverse xs ++ x ∷ []
-reverse_cons x xs = reverse-append (x ∷ []) xs
-
-every_append : {X : Type 0} (f : X → Bool) (xs : List X) (y : X) → every f xs ≡ true → f y ≡ true → every f (xs ++ y ∷ []) ≡ true
-every_append f [] y h e = and_from (f y) true e refl
-every_append f (x ∷ xs) y h e =
-    let both = and_parts (f x) (every f xs) h in and_from (f x) _ both.0 (every_append f xs y both.1 e)
-
-pub every-reverse : {X : Type 0} (f : X → Bool) (xs : List X) → every f xs ≡ true → every f (reverse xs) ≡ true
-every-reverse f [] h = refl
-every-reverse f (x ∷ xs) h =
-    let both = and_parts (f x) (every f xs) h in
-    ap (every f) (reverse_cons x xs) ∙ every_append f (reverse xs) x (every-reverse f xs both.1) both.0
-
-has-append : (x y : Leg) (l : List Leg) → has x (l ++ y ∷ []) ≡ (has x l || same x y)
-has-append x y [] = grind arith
-has-append x y (z ∷ l) = grind (arith, has-append x y l)
-
-has-reverse : (x : Leg) (l : List Leg) → has x (reverse l) ≡ has x l
-has-reverse x [] = refl
-has-reverse x (y ∷ l) = ap (has x) (reverse_cons y l) ∙ has-append x y (reverse l) ∙ grind (arith, has-reverse x l)
-
-distinct_append : (l : List Leg) (y : Leg) → walk.distinct l ≡ true → has y l ≡ false → walk.distinct (l ++ y ∷ []) ≡ true
-distinct_append [] y d h = refl
-distinct_append (z ∷ l) y d h =
-    grind (arith, and_parts (not (has z l)) (walk.distinct l) d, has-append z y l, same-turned y z, distinct_append l y)
-
-pub distinct-reverse : (l : List Leg) → walk.distinct l ≡ true → walk.distinct (reverse l) ≡ true
-distinct-reverse [] d = refl
-distinct-reverse (y ∷ l) d =
-    let both = and_parts (not (has y l)) (walk.distinct l) d in
-    ap walk.distinct (reverse_cons y l)
-    ∙ distinct_append (reverse l) y (distinct-reverse l both.1) (has-reverse y l ∙ grind (arith, both.0))
+use Rattle.planner.proofs.OrderTests.{none_left}
 
 -- ---------------------------------------------------------------- the ranked legs
 -- what is open of the first list that has any is in that list
@@ -90,13 +55,9 @@ none_open ws x (l ∷ ls) e h =
     let here : (walk.unranked ws x && has x l) ≡ false = sym (has_kept x (walk.unranked ws) l) ∙ ap (has x) empty.0 in
     grind (arith, here, none_open ws x ls empty.1)
 
-empty_is : (l : List Leg) → walk.is_empty l ≡ true → l ≡ []
-empty_is [] e = refl
-empty_is (x ∷ l) e = absurd (false≢true e)
-
 -- where the walk is complete every leg of a bus is ranked
 pub all-ranked : (net : Net) → Apart net.buses → (ws : List walk.Ranked) → walk.placed_at net (walk.complete ws) ≡ true → (x : Leg) →
     has_any x net.buses ≡ true → is_some (walk.stored ws x) ≡ true
 all-ranked net apart ws h x on =
     let both = and_parts (walk.is_empty (walk.place_of net ws).open') (walk.placed net ws) h in
-    none_open ws x net.buses (sym (open-as_stored net apart ws both.1) ∙ empty_is _ both.0) on
+    none_open ws x net.buses (sym (open-as_stored net apart ws both.1) ∙ none_left _ both.0) on

@@ -1,5 +1,6 @@
 -- The row of one leg, among the rows of a bus, and among those of all buses.
-use Rattle.std.proofs.Common.{◌≡◌, ℕ, zero, suc, ◌-◌, ◌<◌, ◌≤◌, Bool, true, false, cond, ◌&&◌, ◌||◌, eqb, List, [], ◌∷◌, ◌++◌, map, length, get_or, drop, is_some, Some, None, Option, unwrap_or, sym, refl, ap, ◌∙◌, subst, inl, inr, arith}
+use Rattle.std.proofs.Common.{◌≡◌, ℕ, zero, suc, ◌<◌, ◌≤◌, Bool, true, false, cond, ◌&&◌, ◌||◌, eqb, List, [], ◌∷◌, ◌++◌, map, length, is_some, Some, None, Option, unwrap_or, sym, refl, ap, ◌∙◌, inl, inr, arith}
+use Rattle.std.specs.Option.{option_or}
 use Rattle.std.proofs.lemmas.Bool.{cond-true, cond-false, and_left, and_from, and_parts, ne_eqb, eq-eqb, eqb-true, cases_Bool, cases_eq}
 use Rattle.std.proofs.lemmas.Bool.Decides.{nat_tests}
 use Rattle.bus.specs.Numbered.{member}
@@ -16,34 +17,26 @@ use Rattle.planner.specs.declared.ranked.Ranked.{Ranked}
 use Rattle.planner.specs.declared.rows.Row.{Row}
 use Rattle.planner.specs.declared.seen_legs.Seen.{Seen}
 use Rattle.planner.proofs.AllRows.{rows_to, rows-shown}
-use Rattle.planner.proofs.SeenLegs.{rows_here, row_seen, order-before}
+use Rattle.planner.proofs.SeenLegs.{rows_here, row_seen}
 use Rattle.planner.proofs.StoredOrders.{stored-has}
 
-abbrev pub or_row : Option Row → Option Row → Option Row
-or_row None b = b
-or_row (Some a) b = Some a
-
-or_none : (a : Option Row) → or_row a None ≡ a
+or_none : (a : Option Row) → option_or a None ≡ a
 or_none None = refl
 or_none (Some a) = refl
 
 module _ (bus n : ℕ) where
-  pub row_append : (a b : List Row) → row_at bus n (a ++ b) ≡ or_row (row_at bus n a) (row_at bus n b)
+  row_append : (a b : List Row) → row_at bus n (a ++ b) ≡ option_or (row_at bus n a) (row_at bus n b)
   row_append [] b = refl
-  row_append (r ∷ a) b =
-      elim (cases_Bool (eqb r.bus bus && eqb r.message n)) [
-        | inl e ↦ cond-true _ _ _ e ∙ sym (ap (λ o. or_row o (row_at bus n b)) (cond-true _ (Some r) (row_at bus n a) e))
-        | inr e ↦ cond-false _ _ _ e ∙ row_append a b ∙ sym (ap (λ o. or_row o (row_at bus n b)) (cond-false _ (Some r) (row_at bus n a) e))
-      ]
+  row_append (r ∷ a) b = grind (arith, row_append a b)
 
   row_front : (a b : List Row) (r : Row) → row_at bus n a ≡ Some r → row_at bus n (a ++ b) ≡ Some r
-  row_front a b r e = row_append a b ∙ ap (λ o. or_row o (row_at bus n b)) e
+  row_front a b r e = row_append a b ∙ ap (λ o. option_or o (row_at bus n b)) e
 
   row_past : (a b : List Row) → row_at bus n a ≡ None → row_at bus n (a ++ b) ≡ row_at bus n b
-  row_past a b e = row_append a b ∙ ap (λ o. or_row o (row_at bus n b)) e
+  row_past a b e = row_append a b ∙ ap (λ o. option_or o (row_at bus n b)) e
 
   row_before : (a b : List Row) → row_at bus n b ≡ None → row_at bus n (a ++ b) ≡ row_at bus n a
-  row_before a b e = row_append a b ∙ ap (or_row (row_at bus n a)) e ∙ or_none (row_at bus n a)
+  row_before a b e = row_append a b ∙ ap (option_or (row_at bus n a)) e ∙ or_none (row_at bus n a)
 
   -- ---------------------------------------------------------------- the rows of a bus
   module _ (net : Net) where
@@ -53,14 +46,12 @@ module _ (bus n : ℕ) where
         row_past (rows_in net k o) _ (row_elsewhere k o other) ∙ cond-false _ _ _ (and_left _ _ (ne_eqb k bus other))
 
     -- a row that the top of an order shows is shown by all of it
-    pub row_from_top : (rs : List Ranked) (i : ℕ) (r : Row) → row_at bus n (rows_in net bus (order_on (drop i rs) bus)) ≡ Some r →
-        row_at bus n (rows_in net bus (order_on rs bus)) ≡ Some r
-    row_from_top [] zero r h = h
-    row_from_top [] (suc i) r h = h
-    row_from_top (x ∷ rs) zero r h = h
-    row_from_top (x ∷ rs) (suc i) r h =
-        let rest = row_from_top rs i r h in
-        let o = order_on rs bus in
+    row_from_top : (a b : List Ranked) (r : Row) → row_at bus n (rows_in net bus (order_on b bus)) ≡ Some r →
+        row_at bus n (rows_in net bus (order_on (a ++ b) bus)) ≡ Some r
+    row_from_top [] b r h = h
+    row_from_top (x ∷ a) b r h =
+        let rest = row_from_top a b r h in
+        let o = order_on (a ++ b) bus in
         elim (cases_Bool (eqb x.bus bus)) [
           | inl e ↦ ap (λ l. row_at bus n (rows_in net bus l)) (cond-true _ (leg_at bus x.message ∷ o) o e) ∙ row_front (rows_in net bus o) _ r rest
           | inr e ↦ ap (λ l. row_at bus n (rows_in net bus l)) (cond-false _ (leg_at bus x.message ∷ o) o e) ∙ rest
@@ -82,7 +73,7 @@ module _ (bus n : ℕ) where
       rows-without (suc k) h =
           row_past (rows_to net rs k) _ (rows-without k (omega arith)) ∙ row_elsewhere (suc k) (order_on rs (suc k)) (λ e. omega arith)
 
-      pub row_of_bus : (k : ℕ) → 1 ≤ bus → bus ≤ k → row_at bus n (rows_to net rs k) ≡ row_at bus n (rows_in net bus (order_on rs bus))
+      row_of_bus : (k : ℕ) → 1 ≤ bus → bus ≤ k → row_at bus n (rows_to net rs k) ≡ row_at bus n (rows_in net bus (order_on rs bus))
       row_of_bus zero low high = absurd (omega arith)
       row_of_bus (suc k) low high =
           elim (cases_eq (suc k) bus) [
@@ -96,7 +87,7 @@ module _ (bus n : ℕ) where
           lower d = omega arith
 
   -- the leg itself
-  pub row_here : (rules : List Meaning) (gateway : ℕ) (ms : List Message) (m : ℕ) (o o' : List Leg) (s : Seen) (t : Bool) → Sees bus o s →
+  row_here : (rules : List Meaning) (gateway : ℕ) (ms : List Message) (m : ℕ) (o o' : List Leg) (s : Seen) (t : Bool) → Sees bus o s →
       true ≡ (t && eqb m n) → o' ≡ cond t (leg_at bus m ∷ o) o → row_at bus n (rows_here rules gateway ms bus o) ≡ None →
       row_at bus n (rows_here rules gateway ms bus o') ≡ Some (row_below rules ms bus n s.count (member s.above.bits))
   row_here rules gateway ms m o o' s t sees is next none =
@@ -108,41 +99,8 @@ module _ (bus n : ℕ) where
       ∙ row_past (here o) _ none
       ∙ cond-true _ _ _ (and_from _ _ (eq-eqb bus bus refl) (eq-eqb n n refl))
 
--- ---------------------------------------------------------------- among all the rows
-module _ (ms : List Message) (rs : List Ranked) {S : Type 0} (f : S → Meaning) (rules : List S) (bus n : ℕ) (legs : are_legs ms rs ≡ true)
-    (low : 1 ≤ bus) (high : bus ≤ length rules) (gateway : ℕ) where
-  abbrev here : List Leg → Option Row
-  here o = row_at bus n (rows_here (map f rules) gateway ms bus o)
-
-  abbrev shown : Option Row
-  shown = let net = net_of (board_of (map f rules) gateway ms) in row_at bus n (rows_of net (orders_of net (ranked_of rs)))
-
-  row_shown : shown ≡ here (order_on rs bus)
-  row_shown =
-      ap (row_at bus n) (rows-shown ms rs legs f rules gateway) ∙ row_of_bus bus n (net_of (board_of (map f rules) gateway ms)) rs (length rules) low high
-
-  -- the search ends at the leg
-  pub row_found : (left : ℕ) (d : Ranked) (s : Seen) → 0 < left → left ≤ length rs → Sees bus (order_on (drop left rs) bus) s →
-      here (order_on (drop left rs) bus) ≡ None →
-      let r = get_or rs (left - 1) d in
-      true ≡ (eqb r.bus bus && eqb r.message n) → Some (row_below (map f rules) ms bus n s.count (member s.above.bits)) ≡ shown
-  row_found left d s some' within sees none is =
-      let r = get_or rs (left - 1) d in
-      let o = order_on (drop left rs) bus in
-      sym
-      (row_shown
-      ∙ row_from_top bus n (net_of (board_of (map f rules) gateway ms)) rs (left - 1) _
-      (row_here bus n (map f rules) gateway ms r.message o (order_on (drop (left - 1) rs) bus) s (eqb r.bus bus) sees is
-      (order-before rs bus left d some' within) none))
-
-  -- or past the first
-  pub row_missing : (left : ℕ) → left ≤ 0 → here (order_on (drop left rs) bus) ≡ None → None ≡ shown
-  row_missing left done none =
-      let e : left ≡ 0 = omega arith in
-      sym (row_shown ∙ subst (λ (k : ℕ). here (order_on (drop k rs) bus) ≡ None) e none)
-
--- ---------------------------------------------------------------- a ranked leg has a row
-some_or : (a b : Option Row) → is_some (or_row a b) ≡ (is_some a || is_some b)
+-- ---------------------------------------------------------------- whether a leg has a row
+some_or : (a b : Option Row) → is_some (option_or a b) ≡ (is_some a || is_some b)
 some_or None b = refl
 some_or (Some r) b = refl
 
@@ -171,12 +129,36 @@ some-row bus n net (r ∷ rs) =
           ap (λ l. is_some (row_at bus n (rows_in net bus l))) (cond-false _ (leg_at bus m ∷ o) o e) ∙ rest ∙ grind (arith, nat_tests, e)
     ]
 
-pub ranked-row : (ms : List Message) (rs : List Ranked) {S : Type 0} (f : S → Meaning) (rules : List S) (bus n : ℕ) → are_legs ms rs ≡ true → 1 ≤ bus →
-    bus ≤ length rules → is_some (stored (ranked_of rs) (leg_at bus n)) ≡ true → (gateway : ℕ) →
-    let net = net_of (board_of (map f rules) gateway ms) in
-    is_some (row_at bus n (rows_of net (orders_of net (ranked_of rs)))) ≡ true
-ranked-row ms rs f rules bus n legs low high h gateway =
-    ap is_some (row_shown ms rs f rules bus n legs low high gateway)
-    ∙ some-row bus n (net_of (board_of (map f rules) gateway ms)) rs
-    ∙ sym (stored-has rs (leg_at bus n))
-    ∙ h
+-- ---------------------------------------------------------------- among all the rows
+module _ (ms : List Message) (rs : List Ranked) (legs : are_legs ms rs ≡ true) (rules : List Meaning) (gateway bus n : ℕ) (low : 1 ≤ bus)
+    (high : bus ≤ length rules) where
+  abbrev net : Net
+  net = net_of (board_of rules gateway ms)
+
+  abbrev here : List Leg → Option Row
+  here o = row_at bus n (rows_in net bus o)
+
+  abbrev shown : Option Row
+  shown = row_at bus n (rows_of net (orders_of net (ranked_of rs)))
+
+  row_shown : shown ≡ here (order_on rs bus)
+  row_shown = ap (row_at bus n) (rows-shown ms rs legs rules gateway) ∙ row_of_bus bus n net rs (length rules) low high
+
+  -- the search ends at the leg
+  pub row_found : (left : List Ranked) (r : Ranked) (gone : List Ranked) (s : Seen) (row : Row) → left ++ (r ∷ gone) ≡ rs → Sees bus (order_on gone bus) s →
+      here (order_on gone bus) ≡ None → true ≡ (eqb r.bus bus && eqb r.message n) → row ≡ row_below rules ms bus n s.count (member s.above.bits) →
+      Some row ≡ shown
+  row_found left r gone s row all sees none is here' =
+      ap Some here'
+      ∙ sym
+      (row_shown
+      ∙ ap (λ l. here (order_on l bus)) (sym all)
+      ∙ row_from_top bus n net left (r ∷ gone) _ (row_here bus n rules gateway ms r.message (order_on gone bus) (order_on (r ∷ gone) bus) s (eqb r.bus bus) sees is refl none))
+
+  -- or past the first
+  pub row_missing : (gone : List Ranked) → gone ≡ rs → here (order_on gone bus) ≡ None → None ≡ shown
+  row_missing gone all none = sym none ∙ ap (λ l. here (order_on l bus)) all ∙ sym row_shown
+
+  -- a ranked leg has a row
+  pub ranked-row : is_some (stored (ranked_of rs) (leg_at bus n)) ≡ true → is_some shown ≡ true
+  ranked-row h = ap is_some row_shown ∙ some-row bus n net rs ∙ sym (stored-has rs (leg_at bus n)) ∙ h

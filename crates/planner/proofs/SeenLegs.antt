@@ -1,6 +1,6 @@
 -- The legs of a bus that are seen so far, from the highest rank down: one more, and what is known of the row below them.
-use Rattle.std.proofs.Common.{◌≡◌, ℕ, zero, suc, ◌+◌, ◌-◌, ◌<◌, ◌≤◌, Bool, true, false, cond, ◌&&◌, ◌||◌, eqb, List, [], ◌∷◌, ◌++◌, length, get_or, take, drop, set, unwrap_or, sym, refl, ap, ◌∙◌, subst, arith}
-use Rattle.std.proofs.lemmas.List.{drop_more, drop_all, length_push}
+use Rattle.std.proofs.Common.{◌≡◌, ℕ, suc, ◌+◌, ◌<◌, ◌≤◌, Bool, true, false, cond, ◌&&◌, ◌||◌, eqb, List, [], ◌∷◌, ◌++◌, map, reverse, length, take, drop, set, unwrap_or, Bor, sym, refl, ap, ◌∙◌, subst, arith}
+use Rattle.std.proofs.lemmas.List.{append_assoc, length_push, map-append, nil_from_length, reverse-append}
 use Rattle.std.proofs.lemmas.Bool.{eq-eqb, cond-true}
 use Rattle.bus.specs.Legs.{legs_on}
 use Rattle.bus.specs.Numbered.{member}
@@ -32,33 +32,37 @@ sees_more bus m o s r within count above h =
 pub sees-where : (t u : Bool) (bus : ℕ) (x o : List Leg) (s : Seen) → t ≡ u → Sees bus (cond u x o) s → Sees bus (cond t x o) s
 sees-where t u bus x o s e h = subst (λ v. Sees bus (cond v x o) s) (sym e) h
 
--- ---------------------------------------------------------------- the order of a bus, from the end of what is stored
-pub order-none : (rs : List Ranked) (bus : ℕ) → order_on (drop (length rs) rs) bus ≡ []
-order-none rs bus = ap (λ l. order_on l bus) (drop_all (length rs) rs (omega arith))
+-- ---------------------------------------------------------------- a loop that goes over the ranked legs from the end
+-- the legs that came so far, as they are stored
+abbrev pub came : List (Bor Ranked) → List Ranked
+came ys = reverse (map (λ y. y.now) ys)
 
-module _ (rs : List Ranked) (bus left : ℕ) (d : Ranked) (some' : 0 < left) (within : left ≤ length rs) where
-  pub order-before :
-      let r = get_or rs (left - 1) d in
-      let o = order_on (drop left rs) bus in
-      order_on (drop (left - 1) rs) bus ≡ cond (eqb r.bus bus) (leg_at bus r.message ∷ o) o
-  order-before =
-      let e : left - 1 + 1 ≡ left = omega arith in
-      let r = get_or rs (left - 1) d in
-      ap (λ l. order_on l bus) (drop_more rs (left - 1) d (omega arith))
-      ∙ ap (λ k. cond (eqb r.bus bus) (leg_at bus r.message ∷ order_on (drop k rs) bus) (order_on (drop k rs) bus)) e
+pub came-more : (ys : List (Bor Ranked)) (y : Bor Ranked) → came (ys ++ y ∷ []) ≡ y.now ∷ came ys
+came-more ys y = ap reverse (map-append (λ y. y.now) ys (y ∷ [])) ∙ reverse-append (map (λ y. y.now) ys) (y.now ∷ [])
 
-pub order-shorter : (rs : List Ranked) (bus i : ℕ) → length (order_on (drop i rs) bus) ≤ length (order_on rs bus)
-order-shorter [] bus zero = omega arith
-order-shorter [] bus (suc i) = omega arith
-order-shorter (r ∷ rs) bus zero = omega arith
-order-shorter (r ∷ rs) bus (suc i) = grind (arith, order-shorter rs bus i)
+-- one comes of those that are left
+pub came-next : (rs left less : List Ranked) (r : Ranked) (gone : List Ranked) → left ≡ less ++ r ∷ [] → left ++ gone ≡ rs → less ++ (r ∷ gone) ≡ rs
+came-next rs left less r gone e all = sym (append_assoc less (r ∷ []) gone) ∙ ap (λ l. l ++ gone) (sym e) ∙ all
+
+-- none is left
+pub came-all : (rs left gone : List Ranked) → length left ≡ 0 → left ++ gone ≡ rs → gone ≡ rs
+came-all rs left gone e all = ap (λ l. l ++ gone) (sym (nil_from_length left e)) ∙ all
+
+-- ---------------------------------------------------------------- the order of a bus
+order_behind : (a b : List Ranked) (bus : ℕ) → length (order_on b bus) ≤ length (order_on (a ++ b) bus)
+order_behind [] b bus = omega arith
+order_behind (r ∷ a) b bus = grind (arith, order_behind a b bus)
 
 -- a leg of the bus comes below those behind it
-pub order-longer : (rs : List Ranked) (bus left : ℕ) (d : Ranked) → 0 < left → left ≤ length rs → eqb (get_or rs (left - 1) d).bus bus ≡ true →
-    length (order_on (drop left rs) bus) < length (order_on rs bus)
-order-longer rs bus left d some' within on =
-    let e = order-before rs bus left d some' within ∙ cond-true _ _ _ on in
-    omega (arith, ap length e, order-shorter rs bus (left - 1))
+pub order-longer : (rs a : List Ranked) (r : Ranked) (b : List Ranked) (bus : ℕ) → a ++ (r ∷ b) ≡ rs → eqb r.bus bus ≡ true →
+    length (order_on b bus) < length (order_on rs bus)
+order-longer rs a r b bus all on =
+    omega (
+      arith,
+      ap length (cond-true (eqb r.bus bus) (leg_at bus r.message ∷ order_on b bus) (order_on b bus) on),
+      order_behind a (r ∷ b) bus,
+      ap (λ l. length (order_on l bus)) all,
+    )
 
 -- ---------------------------------------------------------------- rows
 pub length_rows : (net : Net) (bus : ℕ) (o : List Leg) → length (rows_in net bus o) ≡ length o

@@ -1,12 +1,13 @@
 -- The ranked legs of a board whose walk is complete: legs of the board, each once, and all of them.
 use Rattle.std.proofs.Common.{◌≡◌, ℕ, Bool, true, ◌&&◌, ltb, leb, List, [], ◌∷◌, ◌++◌, map, reverse, is_some, sym, refl, ap, ◌∙◌, arith}
-use Rattle.std.proofs.lemmas.List.{reverse-reverse}
+use mathlib.Core.List.{reverse-cons}
 use Rattle.std.proofs.lemmas.Bool.{and_parts, and_from, le-leb, lt-ltb}
 use Rattle.bus.specs.declared.message.Message.{Message}
 use Rattle.search.specs.Lists.{every}
 use Rattle.search.specs.Net.{Leg, has, has_any}
 use Rattle.search.specs.Laws.{Apart}
 use Rattle.search.specs.Stored as walk
+use Rattle.search.proofs.Lists.{every-at, every-by}
 use Rattle.boards.specs.Nets.{net_legs, bus_numbers}
 use Rattle.boards.proofs.Buses.{any_is, buses-apart}
 use Rattle.boards.proofs.Elements.{numbers-is}
@@ -15,34 +16,25 @@ use Rattle.planner.specs.Stages.{layout, stands}
 use Rattle.planner.specs.Storage.{ranked_leg, ranked_of}
 use Rattle.planner.specs.declared.ranked.Ranked.{Ranked}
 use Rattle.planner.specs.declared.stage.Stage.TheVariants.{Complete}
-use Rattle.planner.proofs.RankedOnce.{reverse_cons, every-reverse, distinct-reverse, on-buses, once_each, all-ranked}
+use Rattle.planner.proofs.Every.{every-reverse}
+use Rattle.planner.proofs.OrderTests.{distinct-reverse}
+use Rattle.planner.proofs.RankedOnce.{on-buses, once_each, all-ranked}
+use Rattle.planner.proofs.StoredOrders.{in_turn-stored}
 
-every-mapped : {X Y : Type 0} (g : X → Y) (f : Y → Bool) (xs : List X) → every f (map g xs) ≡ true → every (λ x. f (g x)) xs ≡ true
-every-mapped g f [] h = refl
-every-mapped g f (x ∷ xs) h = let both = and_parts (f (g x)) (every f (map g xs)) h in and_from (f (g x)) _ both.0 (every-mapped g f xs both.1)
+every-mapped : {X Y : Type 0} (g : X → Y) (f : Y → Bool) (xs : List X) → every f (map g xs) ≡ every (λ x. f (g x)) xs
+every-mapped g f [] = refl
+every-mapped g f (x ∷ xs) = ap (λ t. f (g x) && t) (every-mapped g f xs)
 
 every-weaker : {X : Type 0} (f g : X → Bool) → ((x : X) → f x ≡ true → g x ≡ true) → (xs : List X) → every f xs ≡ true → every g xs ≡ true
-every-weaker f g h [] e = refl
-every-weaker f g h (x ∷ xs) e =
-    let both = and_parts (f x) (every f xs) e in and_from (g x) _ (h x both.0) (every-weaker f g h xs both.1)
+every-weaker f g h xs e = every-by g xs (λ a m. h a (every-at f a xs e m))
 
 -- of the legs as the board stores them
-every-stored : (f : walk.Ranked → Bool) (rs : List Ranked) → every f (ranked_of rs) ≡ true → every (λ r. f (ranked_leg r)) rs ≡ true
-every-stored f rs h =
-    ap (every (λ r. f (ranked_leg r))) (sym (reverse-reverse rs)) ∙ every-reverse (λ r. f (ranked_leg r)) (reverse rs) (every-mapped ranked_leg f (reverse rs) h)
+every-stored : (f : walk.Ranked → Bool) (rs : List Ranked) → every f (ranked_of rs) ≡ every (λ r. f (ranked_leg r)) rs
+every-stored f rs = every-mapped ranked_leg f (reverse rs) ∙ every-reverse (λ r. f (ranked_leg r)) rs
 
-map_twice : {X Y Z : Type 0} (f : Y → Z) (g : X → Y) (xs : List X) → map f (map g xs) ≡ map (λ x. f (g x)) xs
-map_twice f g [] = refl
-map_twice f g (x ∷ xs) = ap (λ l. f (g x) ∷ l) (map_twice f g xs)
-
-map_append : {X Y : Type 0} (f : X → Y) (xs ys : List X) → map f (xs ++ ys) ≡ map f xs ++ map f ys
-map_append f [] ys = refl
-map_append f (x ∷ xs) ys = ap (λ l. f x ∷ l) (map_append f xs ys)
-
-map_reverse : {X Y : Type 0} (f : X → Y) (xs : List X) → map f (reverse xs) ≡ reverse (map f xs)
-map_reverse f [] = refl
-map_reverse f (x ∷ xs) =
-    ap (map f) (reverse_cons x xs) ∙ map_append f (reverse xs) (x ∷ []) ∙ ap (λ l. l ++ f x ∷ []) (map_reverse f xs) ∙ sym (reverse_cons (f x) (map f xs))
+in_turn-reversed : (ws : List walk.Ranked) → walk.in_turn ws ≡ reverse (map (λ w. w.leg) ws)
+in_turn-reversed [] = refl
+in_turn-reversed (w ∷ ws) = ap (λ l. l ++ w.leg ∷ []) (in_turn-reversed ws) ∙ sym (reverse-cons w.leg (map (λ w. w.leg) ws))
 
 module _ (n : ℕ) (ms : List Message) (rs : List Ranked) (h : stands n ms rs Complete ≡ true) where
   apart : Apart (layout n ms).buses
@@ -52,7 +44,7 @@ module _ (n : ℕ) (ms : List Message) (rs : List Ranked) (h : stands n ms rs Co
   placed = (and_parts (walk.is_empty (walk.place_of (layout n ms) (ranked_of rs)).open') _ h).1
 
   on : every (λ r. has_any (leg_of_rank r) (layout n ms).buses) rs ≡ true
-  on = every-stored (λ w. has_any w.leg (layout n ms).buses) rs (on-buses (layout n ms) apart (ranked_of rs) placed)
+  on = sym (every-stored (λ w. has_any w.leg (layout n ms).buses) rs) ∙ on-buses (layout n ms) apart (ranked_of rs) placed
 
   pub shown-legs : are_legs ms rs ≡ true
   shown-legs = every-weaker _ (λ r. has (leg_of_rank r) (net_legs ms r.bus)) (λ r k. (any_is ms (leg_of_rank r) (bus_numbers n) k).1) rs on
@@ -67,10 +59,9 @@ module _ (n : ℕ) (ms : List Message) (rs : List Ranked) (h : stands n ms rs Co
 
   pub shown-once : walk.distinct (map leg_of_rank rs) ≡ true
   shown-once =
-      let turned : walk.distinct (map leg_of_rank (reverse rs)) ≡ true =
-      ap walk.distinct (sym (map_twice (λ w. w.leg) ranked_leg (reverse rs))) ∙ once_each (layout n ms) apart (ranked_of rs) placed
-      in
-      ap (λ l. walk.distinct (map leg_of_rank l)) (sym (reverse-reverse rs)) ∙ ap walk.distinct (map_reverse leg_of_rank (reverse rs)) ∙ distinct-reverse (map leg_of_rank (reverse rs)) turned
+      ap walk.distinct (sym (in_turn-stored rs) ∙ in_turn-reversed (ranked_of rs))
+      ∙ distinct-reverse (map (λ w. w.leg) (ranked_of rs))
+      ∙ once_each (layout n ms) apart (ranked_of rs) placed
 
   pub shown-all : (x : Leg) → has_any x (layout n ms).buses ≡ true → is_some (walk.stored (ranked_of rs) x) ≡ true
   shown-all = all-ranked (layout n ms) apart (ranked_of rs) h

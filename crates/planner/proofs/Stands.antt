@@ -1,19 +1,15 @@
--- What is stored belongs to a walk: before its start whatever is stored; while a leg is tested, the leg is open and the ranked legs are placed.
+-- What is stored belongs to a walk: while a leg is tested, the leg is open and the ranked legs are placed.
 use Rattle.std.proofs.Common.{◌≡◌, ℕ, true, List}
 use Rattle.std.proofs.lemmas.Bool.{and_parts}
 use Rattle.bus.specs.declared.message.Message.{Message}
 use Rattle.search.specs.Net.{has}
 use Rattle.search.specs.Stored.{place_of, placed}
-use Rattle.search.proofs.Kept.{every-stage_is_kept}
 use Rattle.planner.specs.Storage.{ranked_of, open_legs}
 use Rattle.planner.specs.Stages.{layout, spot_leg, stands}
 use Rattle.planner.specs.declared.ranked.Ranked.{Ranked}
 use Rattle.planner.specs.declared.rows.Spot.{Spot}
-use Rattle.planner.specs.declared.stage.Stage.TheVariants.{Start, Testing}
+use Rattle.planner.specs.declared.stage.Stage.TheVariants.{Testing}
 use Rattle.planner.proofs.NextTests.{leg-open}
-
-pub stands-before : (count : ℕ) (ms : List Message) (rs : List Ranked) → stands count ms rs Start ≡ true
-stands-before count ms rs = (every-stage_is_kept (layout count ms)).1.first
 
 module _ (count : ℕ) (ms : List Message) (rs : List Ranked) (s : Spot) (h : stands count ms rs (Testing s) ≡ true) where
   both : (has (spot_leg s) (place_of (layout count ms) (ranked_of rs)).open' ≡ true) × (placed (layout count ms) (ranked_of rs) ≡ true)

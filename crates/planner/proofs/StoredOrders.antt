@@ -30,7 +30,7 @@ in_turn-stored (r ∷ rs) =
     ∙ ap (λ l. leg_of_rank r ∷ l) (in_turn-stored rs)
 
 -- a leg has a stored delay where it is one of them
-pub stored-in_turn : (rs : List walk.Ranked) (x : Leg) → is_some (stored rs x) ≡ has x (in_turn rs)
+stored-in_turn : (rs : List walk.Ranked) (x : Leg) → is_some (stored rs x) ≡ has x (in_turn rs)
 stored-in_turn [] x = refl
 stored-in_turn (r ∷ rs) x = grind (arith, stored-in_turn rs x, has-append x (in_turn rs) (r.leg ∷ []), same-turned x r.leg)
 

@@ -1,16 +1,19 @@
--- The first open leg above a number whose readiness is as asked, one message after another.
-use Rattle.std.proofs.Common.{◌≡◌, ℕ, ◌+◌, ◌<◌, Bool, true, false, cond, not, ◌&&◌, ltb, List, ◌∷◌, length, get_or, drop, Some, ap, ◌∙◌, arith}
-use Rattle.std.specs.List.{flat_map}
+-- The first open leg above a number whose readiness is as asked, as a search through the messages.
+use Rattle.std.proofs.Common.{◌≡◌, ℕ, Bool, true, false, cond, not, ◌&&◌, ltb, List, [], ◌∷◌, Some, sym, refl, ap, ◌∙◌, inl, inr, arith}
+use Rattle.std.specs.List.{find, flat_map}
+use Rattle.std.specs.Option.{option_map}
 use Rattle.std.proofs.lemmas.Bool.Decides.{nat_tests}
 use Rattle.bus.specs.declared.message.Message.{Message}
 use Rattle.search.specs.Net.{Leg}
 use Rattle.search.specs.Stored.{stored, first_by}
+use Rattle.search.proofs.Lists.{Among}
 use Rattle.boards.specs.Boards.{rising_messages}
 use Rattle.boards.specs.Nets.{leg_at, pairs_of}
-use Rattle.planner.specs.Storage.{ranked_of, open_legs, is_open, ready_is, above}
+use Rattle.planner.specs.Storage.{ranked_of, open_legs, is_open, ready_is, above, next_such}
 use Rattle.planner.specs.declared.ranked.Ranked.{Ranked}
-use Rattle.planner.proofs.MessageAt.{message_at}
-use Rattle.planner.proofs.OneMessage.{open_more}
+use Rattle.planner.proofs.AmongMessages.{message_among}
+use Rattle.planner.proofs.Mapped.{map-found}
+use Rattle.planner.proofs.OneMessage.{open-first}
 use Rattle.planner.proofs.OwnReady.{own_ready}
 
 -- one more leg, where there is one
@@ -19,16 +22,24 @@ first_more : (f : Leg → Bool) (n : ℕ) (t : Bool) (x : Leg) (l : List Leg) �
 first_more f n true x l = grind (arith, nat_tests)
 first_more f n false x l = grind (arith, nat_tests)
 
-module _ (b : Bool) (rs : List Ranked) (bus after : ℕ) (ms : List Message) (rises : rising_messages ms ≡ true) where
-  pub such_more : (i : ℕ) (m : Message) → i < length ms → m ≡ get_or ms i m →
-      first_by (ready_is b rs (flat_map pairs_of ms)) (above after (open_legs (drop i ms) rs bus))
-      ≡ cond (ltb after m.number && (is_open rs bus m && ready_is b rs (pairs_of m) (leg_at bus m.number))) (Some (leg_at bus m.number))
-      (first_by (ready_is b rs (flat_map pairs_of ms)) (above after (open_legs (drop (i + 1) ms) rs bus)))
-  such_more i m within read =
-      let f = ready_is b rs (flat_map pairs_of ms) in
+module _ (rs : List Ranked) (bus after : ℕ) where
+  -- where a test of each leg is one of its message
+  first-finds : (f : Leg → Bool) (own : Message → Bool) (ms : List Message) → ((m : Message) → Among m ms → f (leg_at bus m.number) ≡ own m) →
+      option_map (λ (m : Message). leg_at bus m.number) (find (λ (m : Message). ltb after m.number && (is_open rs bus m && own m)) ms)
+      ≡ first_by f (above after (open_legs ms rs bus))
+  first-finds f own [] same = refl
+  first-finds f own (m ∷ ms) same =
       let x = leg_at bus m.number in
-      let rest = open_legs (drop (i + 1) ms) rs bus in
-      let own = own_ready (stored (ranked_of rs)) bus ms rises m (message_at ms rises i m within read) in
-      ap (λ l. first_by f (above after l)) (open_more rs bus ms i m within read)
-      ∙ first_more f after (is_open rs bus m) x rest
-      ∙ ap (λ t. cond (ltb after m.number && (is_open rs bus m && cond b t (not t))) (Some x) (first_by f (above after rest))) own
+      map-found (λ (m : Message). leg_at bus m.number) (ltb after m.number && (is_open rs bus m && own m)) m _
+      ∙ ap (cond (ltb after m.number && (is_open rs bus m && own m)) (Some x)) (first-finds f own ms (λ n a. same n (inr a)))
+      ∙ ap (λ t. cond (ltb after m.number && (is_open rs bus m && t)) (Some x) (first_by f (above after (open_legs ms rs bus)))) (sym (same m (inl refl)))
+      ∙ sym (first_more f after (is_open rs bus m) x (open_legs ms rs bus))
+      ∙ ap (λ l. first_by f (above after l)) (sym (open-first rs bus m ms))
+
+  pub such-finds : (b : Bool) (ms : List Message) → rising_messages ms ≡ true →
+      option_map (λ (m : Message). leg_at bus m.number)
+      (find (λ (m : Message). ltb after m.number && (is_open rs bus m && ready_is b rs (pairs_of m) (leg_at bus m.number))) ms)
+      ≡ next_such ms rs bus after b
+  such-finds b ms rises =
+      first-finds (ready_is b rs (flat_map pairs_of ms)) (λ m. ready_is b rs (pairs_of m) (leg_at bus m.number)) ms
+      (λ m a. ap (λ t. cond b t (not t)) (own_ready (stored (ranked_of rs)) bus ms rises m (message_among ms m rises a)))

@@ -1,10 +1,10 @@
 -- The first leg that is tested at a rank, and the next one, as the first open legs of a readiness.
-use Rattle.std.proofs.Common.{◌≡◌, ℕ, Bool, true, false, List, Some, None, Option, sym, ap, ◌∙◌, arith}
+use Rattle.std.proofs.Common.{◌≡◌, ℕ, Bool, true, false, List, Some, sym, ap, ◌∙◌, arith}
 use Rattle.std.specs.List.{flat_map}
 use Rattle.bus.specs.Rules.{Meaning}
 use Rattle.bus.specs.declared.message.Message.{Message}
 use Rattle.search.specs.Lists.{every}
-use Rattle.search.specs.Net.{Leg, has}
+use Rattle.search.specs.Net.{has}
 use Rattle.search.specs.Stored.{stored, behind, head_of, first_by, or_first}
 use Rattle.search.specs.Walk.{partnered, candidates}
 use Rattle.search.proofs.Candidate.{first-candidate, next-after_ready, next-after_unready}
@@ -14,13 +14,6 @@ use Rattle.planner.specs.Storage.{ranked_of, open_legs, ready_is, next_such}
 use Rattle.planner.specs.declared.ranked.Ranked.{Ranked}
 use Rattle.planner.proofs.Above.{all_above, behind-above}
 use Rattle.planner.proofs.OwnReady.{own_ready}
-
--- the first of two that is there
-pub is_first : (a b : Option Leg) (x : Leg) → Some x ≡ a → Some x ≡ or_first a b
-is_first a b x e = ap (λ o. or_first o b) e
-
-pub is_second : (a b o : Option Leg) → None ≡ a → o ≡ b → o ≡ or_first a b
-is_second a b o none e = e ∙ ap (λ v. or_first v b) none
 
 module _ (rules : List Meaning) (gateway : ℕ) (ms : List Message) (rises : rising_messages ms ≡ true) (rs : List Ranked) (bus : ℕ) where
   from_start : (b : Bool) → first_by (ready_is b rs (flat_map pairs_of ms)) (open_legs ms rs bus) ≡ next_such ms rs bus 0 b

@@ -1,9 +1,9 @@
--- One message less: the messages still rise and are on the board, and what has which number.
-use Rattle.std.proofs.Common.{◌≡◌, ℕ, Bool, true, List, [], ◌∷◌, None, refl, ap, ◌∙◌, arith}
+-- One message less: the messages still rise and are on the board.
+use Rattle.std.proofs.Common.{◌≡◌, ℕ, Bool, true, List, [], ◌∷◌, refl, ap, ◌∙◌, arith}
 use Rattle.std.proofs.lemmas.Bool.Decides.{nat_tests}
 use Rattle.bus.specs.declared.message.Message.{Message}
 use Rattle.search.specs.Lists.{every}
-use Rattle.boards.specs.Boards.{message_of, messages_from, rising_messages}
+use Rattle.boards.specs.Boards.{messages_from, rising_messages}
 use Rattle.planner.specs.Messages.{withdrawn}
 use Rattle.planner.proofs.Rising.{messages_from-lower}
 
@@ -21,15 +21,3 @@ module _ (n : ℕ) where
 
   pub every-after : (f : Message → Bool) (ms after : List Message) → after ≡ withdrawn n ms → every f ms ≡ true → every f after ≡ true
   every-after f ms after e h = ap (every f) e ∙ every-withdrawn f ms h
-
-  pub message_of-withdrawn : (ms : List Message) → message_of (withdrawn n ms) n ≡ None
-  message_of-withdrawn [] = refl
-  message_of-withdrawn (x ∷ xs) = grind (arith, nat_tests, message_of-withdrawn xs)
-
-  pub message_of-withdrawn_other : (k : ℕ) (ms : List Message) → (k ≡ n → ⊥) → message_of (withdrawn n ms) k ≡ message_of ms k
-  message_of-withdrawn_other k [] other = refl
-  message_of-withdrawn_other k (x ∷ xs) other = grind (arith, nat_tests, message_of-withdrawn_other k xs other)
-
-  pub withdrawn-none : (ms : List Message) → message_of ms n ≡ None → withdrawn n ms ≡ ms
-  withdrawn-none [] h = refl
-  withdrawn-none (x ∷ xs) h = grind (arith, nat_tests, withdrawn-none xs)

@@ -3,6 +3,7 @@ pub mod Calls
 pub mod Checks
 pub mod Logs
 pub mod Messages
+pub mod Networks
 pub mod Partners
 pub mod Refusing
 pub mod Spots

@@ -1,12 +1,12 @@
 -- A board as callers see it: where it stands.
-use Rattle.std.specs.Prelude.{◌≡◌, ℕ, Bool, List, map, take, drop, Ok, Err, vec_items, Result}
+use Rattle.std.specs.Prelude.{◌≡◌, ℕ, Bool, List, take, drop, Ok, Err, vec_items, Result}
 use Rattle.bus.specs.Rules.{Meaning}
 use Rattle.bus.specs.declared.refusal.Refusal.{Refusal}
 use Rattle.search.specs.Stored as walk
-use Rattle.boards.specs.Boards.{board_of}
 use Rattle.boards.specs.Boards as boards
 use Rattle.boards.specs.Nets.{net_of}
 use Rattle.planner.specs.Logs.{Answer, done, refused, tried, looked, listed, checked}
+use Rattle.planner.specs.Networks.{board_on}
 use Rattle.planner.specs.Standing.{Standing}
 use Rattle.planner.specs.Stages.{stage_of}
 use Rattle.planner.specs.declared.board.Board.{Board}
@@ -16,12 +16,12 @@ use Rattle.planner.specs.declared.rows.Row.{Row}
 
 -- its rules as functions, its gateway time and its messages; f is what a rule means
 abbrev pub board_in : {S : Type 0} → (S → Meaning) → Board S → boards.Board
-board_in f b = board_of (map f b.rules.now) b.gateway (vec_items b.messages)
+board_in f b = board_on f b.network
 
 abbrev pub standing : {S : Type 0} → (S → Meaning) → Board S → Standing
 standing f b =
     let net = net_of (board_in f b) in
-    record { board = board_in f b; left = walk.left net (stage_of net (vec_items b.ranked) b.stage) }
+    record { board = board_in f b; left = walk.left net (stage_of net (vec_items b.walk.ranked) b.walk.stage) }
 
 -- what enter and withdraw answer, as a log has it
 abbrev pub changed : Result (Unit {0}) Refusal → Answer

@@ -3,11 +3,9 @@ ghost use Rattle.planner.specs.Checks.{MarginsAsMany, MarginsTell, MetWhereNoneI
 
 // What the margins tell: a margin is below zero exactly where its delay is late, and all is met exactly where none is; that is where the
 // orders meet the net.
-pub fn margins_law() -> u8
+pub fn margins_law()
     ensures count { MarginsAsMany }
     ensures tell { MarginsTell }
     ensures below { MetWhereNoneIsBelow }
     ensures orders { MetWhereOrdersMeet }
-{
-    0
-}
+{}

@@ -9,6 +9,7 @@ ghost use Rattle.planner.specs.Storage.{ranked_of, open_legs, is_open};
 
 use crate::ranked::Ranked;
 use crate::ranks::delay_of;
+use crate::table::Table;
 use bus::leg_set::LegSet;
 use bus::message::Message;
 
@@ -26,15 +27,17 @@ fn is_other(ranked: &[Ranked], message: Message, bus: u8, number: u8) -> bool
     message.number != number && is_open(ranked, message, bus)
 }
 
-// The open legs of the bus but for that of one message.
-pub(crate) fn others(messages: &[Message], ranked: &[Ranked], bus: u8, number: u8) -> LegSet
-    ensures { (k : ℕ) → member result.bits k ≡ has (leg_at bus k) (less (leg_at bus number) (open_legs messages.now ranked.now bus)) }
-{
-    let mut set = LegSet::empty();
-    for message in messages {
-        if is_other(ranked, *message, bus, number) {
-            set = set.with(message.number);
+impl Table {
+    // The open legs of the bus but for that of one message.
+    pub(crate) fn others(&self, ranked: &[Ranked], bus: u8, number: u8) -> LegSet
+        ensures { (k : ℕ) → member result.bits k ≡ has (leg_at bus k) (less (leg_at bus number) (open_legs self.now.messages.items ranked.now bus)) }
+    {
+        let mut set = LegSet::empty();
+        for message in &self.messages {
+            if is_other(ranked, *message, bus, number) {
+                set = set.with(message.number);
+            }
         }
+        set
     }
-    set
 }

@@ -1,34 +1,23 @@
 // Reading the ranked legs: the delay with which a leg is ranked, whether a leg is ready.
 ghost use Rattle.std.specs.Prelude.{◌≡◌};
 ghost use Rattle.search.specs.Lists.{every};
-ghost use Rattle.search.specs.Net.{same};
 ghost use Rattle.search.specs.Stored.{stored};
 ghost use Rattle.search.specs.Walk.{known, partnered};
 ghost use Rattle.boards.specs.Nets.{leg_at, pair_to, pairs_of};
 ghost use Rattle.planner.specs.Storage.{ranked_of};
 
 use crate::ranked::Ranked;
-use bus::leg_set::LegSet;
 use bus::message::Message;
-
-// Whether the ranked leg is that of the message on the bus.
-fn is_of(leg: Ranked, bus: u8, message: u8) -> bool
-    ensures { result ≡ same (leg_at leg.bus leg.message) (leg_at bus message) }
-{
-    leg.bus == bus && leg.message == message
-}
 
 // The delay with which a leg is ranked; None while it is open.
 pub(crate) fn delay_of(ranked: &[Ranked], bus: u8, message: u8) -> Option<u64>
     ensures { result ≡ stored (ranked_of ranked.now) (leg_at bus message) }
 {
-    let mut delay = None;
-    for leg in ranked {
-        if is_of(*leg, bus, message) {
-            delay = Some(leg.delay);
-        }
-    }
-    delay
+    ranked
+        .iter()
+        .rev()
+        .find(|leg| leg.is_leg(bus, message))
+        .map(|leg| leg.delay)
 }
 
 // Whether the message's leg on `other` is ranked, or is the one on `bus`.
@@ -53,13 +42,7 @@ fn is_partnered(ranked: &[Ranked], message: Message, bus: u8, destination: u8) -
 pub(crate) fn is_ready(ranked: &[Ranked], message: Message, bus: u8) -> bool
     ensures { result ≡ every (partnered (stored (ranked_of ranked.now)) (leg_at bus message.number)) (pairs_of message) }
 {
-    let destinations = LegSet {
-        bits: message.destinations as u64,
-    };
-    for destination in 1..=8 {
-        if destinations.contains(destination) && !is_partnered(ranked, message, bus, destination) {
-            return false;
-        }
-    }
-    true
+    (1..=8).all(|destination| {
+        !message.goes_to(destination) || is_partnered(ranked, message, bus, destination)
+    })
 }

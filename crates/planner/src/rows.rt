@@ -1,7 +1,7 @@
 // The rows that callers lend.
 
 // A row that list fills, one for each leg.
-#[derive(Clone, Copy, PartialEq, Eq, Debug)]
+#[derive(Clone, Copy, Default, PartialEq, Eq, Debug)]
 pub struct Row {
     pub bus: u8,
     // 1 is the highest
@@ -11,14 +11,14 @@ pub struct Row {
 }
 
 // A row of an order that check reads: by bus, and then from the highest rank down.
-#[derive(Clone, Copy, PartialEq, Eq, Debug)]
+#[derive(Clone, Copy, Default, PartialEq, Eq, Debug)]
 pub struct Spot {
     pub bus: u8,
     pub message: u8,
 }
 
 // A row that check fills, one for each local message and each pair.
-#[derive(Clone, Copy, PartialEq, Eq, Debug)]
+#[derive(Clone, Copy, Default, PartialEq, Eq, Debug)]
 pub struct Margin {
     pub message: u8,
     // 0 for a local message

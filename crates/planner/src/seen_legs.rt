@@ -1,8 +1,11 @@
 // The legs of one bus that are seen so far, from the highest rank down.
+ghost use Rattle.std.specs.Prelude.{◌≤◌};
+
 use bus::leg_set::LegSet;
 
 #[derive(Clone, Copy)]
 pub struct Seen {
     pub count: u8,
     pub above: LegSet,
+    ghost few: { count ≤ 64 },
 }

@@ -1,7 +1,7 @@
 // How far the walk of a board has come, beside its ranked legs.
 use crate::rows::Spot;
 
-#[derive(Clone, Copy)]
+#[derive(Clone, Copy, PartialEq, Eq, Debug)]
 pub enum Stage {
     // nothing is tested yet
     Start,

@@ -4,8 +4,7 @@ ghost use Rattle.planner.specs.Logs.{Gives, check as checking};
 ghost use Rattle.planner.specs.Views.{standing, checks, KeepsMargins};
 
 use super::Board;
-use crate::margins::{margin_count, write_margins};
-use crate::naming::names_legs;
+use crate::orders::Orders;
 use crate::rows::{Margin, Spot};
 use bus::refusal::Refusal;
 use bus::rule::BusRule;
@@ -17,15 +16,14 @@ impl<'a, R: BusRule> Board<'a, R> {
         ensures answer { Gives (standing R.BusRule.answer self.now) (checking orders.now (length margins.old)) (checks margins.new result) (standing R.BusRule.answer self.now) }
         ensures rest { KeepsMargins result margins.old margins.new }
     {
-        if self.messages.is_empty() {
+        let table = &self.network.table;
+        if table.is_empty() {
             return Err(Refusal::NoMessages);
         }
-        if margins.len() < margin_count(&self.messages) {
+        if margins.len() < table.margin_count() {
             return Err(Refusal::FewRows);
         }
-        if !names_legs(self.rules.len() as u8, &self.messages, orders) {
-            return Err(Refusal::WrongRows);
-        }
-        Ok(write_margins(self.rules, self.gateway, &self.messages, orders, margins))
+        let orders = Orders::read(&self.network, orders)?;
+        Ok(orders.write_margins(margins))
     }
 }

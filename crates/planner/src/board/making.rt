@@ -7,7 +7,8 @@ ghost use Rattle.planner.specs.Standing.{fresh};
 ghost use Rattle.planner.specs.Views.{standing};
 
 use super::Board;
-use crate::stage::Stage;
+use crate::network::Network;
+use crate::walk::Walk;
 use bus::refusal::Refusal;
 use bus::rule::BusRule;
 use std::alloc::{AllocError, Global};
@@ -18,11 +19,8 @@ impl<'a, R: BusRule> Board<'a, R> {
         ensures { IfOk result (λ b. standing R.BusRule.answer b ≡ fresh (board_of [] 0 [])) }
     {
         Ok(Board {
-            rules: &[],
-            gateway: 0,
-            messages: Vec::with_capacity(heap, 64)?,
-            ranked: Vec::with_capacity(heap, 512)?,
-            stage: Stage::Start,
+            network: Network::new(heap)?,
+            walk: Walk::new(heap)?,
         })
     }
 
@@ -31,17 +29,14 @@ impl<'a, R: BusRule> Board<'a, R> {
         ensures answer { MatchResult result (λ _. (make_fault (length rules.now) gateway ≡ None) × (standing R.BusRule.answer self.new ≡ fresh (board_of (map R.BusRule.answer rules.now) gateway []))) (λ f. (make_fault (length rules.now) gateway ≡ Some f) × (self.new ≡ self.old)) }
         ensures law { OnOk result ((log : List Line) → Happened (standing R.BusRule.answer self.new) log → LogLaw 0 false log) }
     {
-        if rules.len() < 1 || rules.len() > 8 {
+        if !(1..=8).contains(&rules.len()) {
             return Err(Refusal::Count);
         }
         if gateway > 1_000_000_000 {
             return Err(Refusal::Range);
         }
-        self.rules = rules;
-        self.gateway = gateway;
-        self.messages.clear();
-        self.ranked.clear();
-        self.stage = Stage::Start;
+        self.network.renew(rules, gateway);
+        self.walk.reset();
         Ok(())
     }
 }

@@ -1,5 +1,6 @@
-use Rattle.std.proofs.Common.{◌≡◌, ℕ, ◌+◌, Bool, true, false, ◌||◌, List, ◌∷◌, get_or, drop, sym, refl, ap, ◌∙◌}
-use Rattle.std.proofs.lemmas.List.{at_drop_more, at_drop_all}
+use Rattle.std.proofs.Common.{◌≡◌, ℕ, ◌+◌, ◌||◌, List, ◌∷◌, get_or, drop, sym, ap, ◌∙◌}
+use Rattle.std.proofs.Math.Bool.{or-false}
+use Rattle.std.proofs.lemmas.List.{at_drop_more}
 use Rattle.bus.specs.Numbered.{member}
 use Rattle.search.specs.Net.{has}
 use Rattle.boards.specs.Nets.{leg_at}
@@ -13,16 +14,6 @@ use Rattle.planner.proofs.margins.above_in.Goals.{then-row-bus+else-row-message,
 abbrev none : Spot
 none = record { bus = 0; message = 0 }
 
-or_none : (t u : Bool) → u ≡ false → (t || u) ≡ t
-or_none t u e = ap (λ v. t || v) e ∙ go t
-  where
-    go : (t : Bool) → (t || false) ≡ t
-    go true = refl
-    go false = refl
-
-pub loop-row-init : goal.loop-row-init
-loop-row-init c = (refl, λ k. ap (λ t. t || named_ahead c.args.rows.now c.args.bus c.args.message k) (c.empty-above.ensures k))
-
 pub returns-then-row-message : goal.returns-then-row-message
 returns-then-row-message c =
     let rows = c.args.rows.now in
@@ -35,7 +26,7 @@ returns-then-row-message c =
           ∙ at_drop_more (λ (l : List Spot). has (leg_at bus n) (down_in l bus)) rows i none c.loop-row-test.true
           ∙ row_found bus n r rest c.if-row-bus.true c.if-row-message.true,
       λ k.
-          sym (or_none (member c.loop-row.above.bits k) _ (ahead_none bus n r rest c.if-row-bus.true c.if-row-message.true k))
+          sym (ap (λ t. member c.loop-row.above.bits k || t) (ahead_none bus n r rest c.if-row-bus.true c.if-row-message.true k) ∙ or-false _)
           ∙ sym (ap (λ t. member c.loop-row.above.bits k || t) (at_drop_more (λ (l : List Spot). named_ahead l bus n k) rows i none c.loop-row-test.true))
           ∙ c.loop-row.invariant.1 k
           ∙ ahead-means rows bus n k,
@@ -71,8 +62,3 @@ loop-row-preserved c =
           ∙ sym (ap (λ t. member c.loop-row.above.bits k || t) (at_drop_more (λ (l : List Spot). named_ahead l bus n k) rows i none c.loop-row-test.true))
           ∙ c.loop-row.invariant.1 k,
     )
-
-pub returns : goal.returns
-returns c =
-    sym c.loop-row.invariant.0
-    ∙ at_drop_all (λ (l : List Spot). has (leg_at c.args.bus c.args.message) (down_in l c.args.bus)) c.args.rows.now c.loop-row.row-index c.loop-row-test.false

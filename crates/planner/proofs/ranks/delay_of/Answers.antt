@@ -1,29 +1,16 @@
-use Rattle.std.proofs.Common.{sym, ap, ◌∙◌}
-use Rattle.std.proofs.lemmas.List.{take_all}
-use Rattle.std.proofs.lemmas.Bool.{cond-true, cond-false}
-use Rattle.search.specs.Stored.{stored}
-use Rattle.boards.specs.Nets.{leg_at}
-use Rattle.planner.specs.Storage.{ranked_of}
-use Rattle.planner.proofs.RankedLists.{stored_more}
+use Rattle.std.proofs.Common.{◌≡◌, ◌&&◌, eqb, reverse, ap, ◌∙◌, rules, tests}
+use Rattle.std.specs.Option.{option_map}
+use Rattle.std.proofs.lemmas.Iterator.Adapters.{YieldsList-from_rev_slice}
+use Rattle.std.proofs.lemmas.Iterator.Search.{find_from_yields_List}
+use Rattle.planner.specs.declared.ranked.Ranked.{Ranked}
+use Rattle.planner.proofs.Mapped.{map_map}
+use Rattle.planner.proofs.Rankings.{stored-finds}
 use Rattle.planner.proofs.ranks.delay_of.Goals as goal
-use Rattle.planner.proofs.ranks.delay_of.Goals.{then-is_of, else-is_of}
-
-pub loop-leg-preserved : goal.loop-leg-preserved
-loop-leg-preserved c =
-    elim c.if-is_of.branch [
-      | then-is_of w ↦
-          w.delay-is
-          ∙ sym
-          (stored_more c.args.ranked.now c.loop-leg.leg-index _ (leg_at c.args.bus c.args.message) c.loop-leg-test.true
-          ∙ cond-true _ _ _ (sym c.is_of.ensures ∙ w.if-is_of.true))
-      | else-is_of w ↦
-          w.delay-is ∙ c.loop-leg.invariant
-          ∙ sym
-          (stored_more c.args.ranked.now c.loop-leg.leg-index _ (leg_at c.args.bus c.args.message) c.loop-leg-test.true
-          ∙ cond-false _ _ _ (sym c.is_of.ensures ∙ w.if-is_of.false))
-    ]
 
 pub returns : goal.returns
 returns c =
-    c.loop-leg.invariant
-    ∙ ap (λ l. stored (ranked_of l) (leg_at c.args.bus c.args.message)) (take_all c.loop-leg.leg-index c.args.ranked.now c.loop-leg-test.false)
+    let found =
+    find_from_yields_List (λ (r : Ranked). eqb r.bus c.args.bus && eqb r.message c.args.message) _ _ c.find.result c.find.ensures.ran
+    (YieldsList-from_rev_slice c.args.ranked.now (cc)) (λ x b q k. search (rules, tests)) in
+    let told : c.map.result ≡ option_map (λ r. r.now.delay) c.find.result = search rules in
+    told ∙ map_map _ _ c.find.result ∙ ap (option_map (λ (r : Ranked). r.delay)) found ∙ stored-finds c.args.bus c.args.message (reverse c.args.ranked.now)

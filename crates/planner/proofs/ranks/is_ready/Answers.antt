@@ -1,27 +1,18 @@
-use Rattle.std.proofs.Common.{sym, ◌∙◌, arith}
-use Rattle.planner.proofs.OnePair.{skipped, passed, failed, none_left}
+use Rattle.std.proofs.Common.{◌||◌, not, refl, ◌∙◌, rules, tests}
+use Rattle.std.proofs.lemmas.Iterator.Search.{all_from_yields_List}
+use Rattle.bus.specs.Numbered.{member}
+use Rattle.search.specs.Stored.{stored}
+use Rattle.search.specs.Walk.{partnered}
+use Rattle.boards.specs.Nets.{leg_at, pair_to}
+use Rattle.planner.specs.Storage.{ranked_of}
+use Rattle.planner.proofs.Destinations.{pairs-by_bus}
+use Rattle.planner.proofs.InclusiveRanges.{YieldsList-from_inclusive}
 use Rattle.planner.proofs.ranks.is_ready.Goals as goal
-use Rattle.planner.proofs.ranks.is_ready.Goals.{else-contains-via-then-contains+else-not-is_partnered, else-contains-via-else-contains}
-
-pub loop-destination-preserved : goal.loop-destination-preserved
-loop-destination-preserved c =
-    elim c.else-contains.branch [
-      | else-contains-via-then-contains+else-not-is_partnered w ↦
-          c.loop-destination.invariant
-          ∙ passed c.args.message _ c.loop-destination.destination c.loop-destination-test.true
-          (sym c.contains.ensures ∙ w.if-contains.true) (sym w.is_partnered.ensures ∙ w.if-not-is_partnered.false)
-      | else-contains-via-else-contains w ↦
-          c.loop-destination.invariant
-          ∙ skipped c.args.message _ c.loop-destination.destination c.loop-destination-test.true
-          (sym c.contains.ensures ∙ w.if-contains.false)
-    ]
-
-pub returns-then-not-is_partnered : goal.returns-then-not-is_partnered
-returns-then-not-is_partnered c =
-    sym
-    (c.loop-destination.invariant
-    ∙ failed c.args.message _ c.loop-destination.destination c.loop-destination-test.true
-    (sym c.contains.ensures ∙ c.if-contains.true) (sym c.is_partnered.ensures ∙ c.if-not-is_partnered.true))
 
 pub returns : goal.returns
-returns c = sym (c.loop-destination.invariant ∙ none_left c.args.message _ c.loop-destination.destination (omega arith))
+returns c =
+    let f = partnered (stored (ranked_of c.args.ranked.now)) (leg_at c.args.bus c.args.message.number) in
+    let range = YieldsList-from_inclusive 1 8 8 c.new.ensures.start c.new.ensures.end c.new.ensures.exhausted refl in
+    all_from_yields_List (λ k. not (member c.args.message.destinations k) || f (pair_to c.args.message k)) _ _ c.all.result c.all.ensures.ran range
+    (λ x b q k. search (rules, tests))
+    ∙ pairs-by_bus f c.args.message

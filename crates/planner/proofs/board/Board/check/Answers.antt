@@ -1,120 +1,58 @@
-use Rattle.std.proofs.Common.{◌≡◌, ◌≤◌, true, false, List, map, length, drop, vec_items, vec_len, sym, refl, ap, ◌∙◌, subst, arith}
-use Rattle.std.proofs.lemmas.List.{drop_at}
-use Rattle.std.proofs.lemmas.Bool.{eqb-true, eqb-false}
-use Rattle.bus.specs.declared.message.Message.{Message}
-use Rattle.boards.specs.Boards.{board_of, rising_messages}
-use Rattle.boards.specs.Nets.{net_of}
-use Rattle.planner.specs.Checks.{orders_in, named, margin_rows, all_met}
-use Rattle.planner.specs.Logs.{margin_count}
-use Rattle.planner.specs.Refusing.{is_none}
+use Rattle.std.proofs.Common.{◌≡◌, ◌≤◌, List, length, Err, rules, sym, ◌∙◌, subst, arith}
+use Rattle.std.proofs.lemmas.List.{length-map}
+use Rattle.bus.specs.declared.refusal.Refusal.TheVariants.{WrongRows}
+use Rattle.boards.specs.Boards.{bus_count}
+use Rattle.planner.specs.Checks.{orders_in, all_met, margin_rows}
+use Rattle.planner.specs.Logs.{margin_count, check, Gives}
+use Rattle.planner.specs.Networks.{board_on, net_on}
 use Rattle.planner.specs.Spots.{Written}
-use Rattle.planner.specs.Views.{board_in, standing}
-use Rattle.planner.proofs.Checkings.{none-is_empty, some-are_there, check_empty, check_few, check_wrong, check_gives}
-use Rattle.planner.proofs.FreshBoards.{length_map}
-use Rattle.planner.proofs.Rising.{rising-few}
+use Rattle.planner.specs.Views.{board_in, standing, checks}
+use Rattle.planner.specs.declared.board.Board.{Board}
+use Rattle.planner.specs.declared.network.Network.{Network}
+use Rattle.planner.specs.declared.rows.Spot.{Spot}
+use Rattle.planner.proofs.Checkings.{check_few, check_wrong, check_gives}
+use Rattle.planner.proofs.board.Board.check.Given as given
 use Rattle.planner.proofs.board.Board.check.Goals as goal
 
-pub returns-then-is_empty : goal.returns-then-is_empty
-returns-then-is_empty g c =
-    let board = c.args.self.now in
-    let f = g.R.BusRule.answer in
-    record {
-      answer =
-          check_empty (board_in f board) (standing f board).left c.args.orders.now (length c.args.margins.now)
-          (none-is_empty (vec_items board.messages) (omega (arith, eqb-true (vec_len board.messages) 0 (sym c.if-is_empty.ensures), board.messages.ok.0)));
-      rest = refl;
-    }
+-- as many rules as buses
+counted : (g : given.Over) (board : Board g.row.R.Denot) → bus_count (board_in g.R.BusRule.answer board) ≡ board.network.table.buses
+counted g board = length-map board.network.rules.now g.R.BusRule.answer ∙ board.network.ruled
 
-pub margin_count-requires : goal.margin_count-requires
-margin_count-requires g c =
+pub returns-then-margins-margin_count-clause-answer : goal.returns-then-margins-margin_count-clause-answer
+returns-then-margins-margin_count-clause-answer g c =
     let board = c.args.self.now in
-    subst (λ (ms : List Message). length ms ≤ 64) (sym c.deref.ensures.value) (rising-few (vec_items board.messages) board.rises)
+    let b = board_in g.R.BusRule.answer board in
+    check_few b (standing g.R.BusRule.answer board).left c.args.orders.now (length c.args.margins.now) board.network.table.buses (counted g board) (sym c.if-is_empty.ensures)
+    (omega (arith, c.margin_count.ensures b.rules b.gateway))
 
-pub returns-then-margins-margin_count : goal.returns-then-margins-margin_count
-returns-then-margins-margin_count g c =
+pub returns-in_err-orders-clause-answer : goal.returns-in_err-orders-clause-answer
+returns-in_err-orders-clause-answer g c =
     let board = c.args.self.now in
-    let f = g.R.BusRule.answer in
-    let some : is_none (vec_items board.messages) ≡ false =
-    some-are_there (vec_items board.messages) (λ e. eqb-false (vec_len board.messages) 0 (sym c.if-is_empty.ensures) (omega (arith, e, board.messages.ok.0)))
-    in
-    let count : c.margin_count.result ≡ margin_count (board_in f board) =
-    c.margin_count.ensures (map f board.rules.now) board.gateway
-    ∙ ap (λ (ms : List Message). margin_count (board_of (map f board.rules.now) board.gateway ms)) c.deref.ensures.value
-    in record {
-      answer = check_few (board_in f board) (standing f board).left c.args.orders.now (length c.args.margins.now) some (omega (arith, c.if-margins-margin_count.true, count));
-      rest = refl;
-    }
-
-pub returns-then-not-names_legs : goal.returns-then-not-names_legs
-returns-then-not-names_legs g c =
-    let board = c.args.self.now in
-    let f = g.R.BusRule.answer in
-    let ms = vec_items board.messages in
-    let some : is_none ms ≡ false =
-    some-are_there ms (λ e. eqb-false (vec_len board.messages) 0 (sym c.if-is_empty.ensures) (omega (arith, e, board.messages.ok.0)))
-    in
-    let count : c.margin_count.result ≡ margin_count (board_in f board) =
-    c.margin_count.ensures (map f board.rules.now) board.gateway
-    ∙ ap (λ (ms : List Message). margin_count (board_of (map f board.rules.now) board.gateway ms)) c.deref.ensures.value
-    in
-    let wrong : named (length (map f board.rules.now)) ms c.args.orders.now ≡ false =
-    ap (λ n. named n ms c.args.orders.now) (length_map f board.rules.now)
-    ∙ sym (c.if-not-names_legs.ensures ∙ ap (λ (m : List Message). named (length board.rules.now) m c.args.orders.now) c.deref-2.ensures.value)
-    in record {
-      answer = check_wrong (board_in f board) (standing f board).left c.args.orders.now (length c.args.margins.now) some (omega (arith, c.if-margins-margin_count.false, count)) wrong;
-      rest = refl;
-    }
+    let b = board_in g.R.BusRule.answer board in
+    let at = standing g.R.BusRule.answer board in
+    let e : c.from_residual.result ≡ Err WrongRows = search rules in
+    subst (λ r. Gives at (check c.args.orders.now (length c.args.margins.now)) (checks c.args.margins.now r) at) (sym e)
+    (check_wrong b at.left c.args.orders.now (length c.args.margins.now) board.network.table.buses (counted g board) (sym c.if-is_empty.ensures)
+    (omega (arith, c.margin_count.ensures b.rules b.gateway)) c.in_err-orders.ensures.0)
 
 pub write_margins-requires : goal.write_margins-requires
 write_margins-requires g c =
-    let board = c.args.self.now in
-    let f = g.R.BusRule.answer in
-    let ms = vec_items board.messages in
-    let right : named (length board.rules.now) ms c.args.orders.now ≡ true =
-    sym (c.if-not-names_legs.ensures ∙ ap (λ (m : List Message). named (length board.rules.now) m c.args.orders.now) c.deref-2.ensures.value)
-    in
-    let count : c.margin_count.result ≡ margin_count (board_in f board) =
-    c.margin_count.ensures (map f board.rules.now) board.gateway
-    ∙ ap (λ (m : List Message). margin_count (board_of (map f board.rules.now) board.gateway m)) c.deref.ensures.value
-    in record {
-      gateway = board.gateway_range;
-      rises = subst (λ (m : List Message). rising_messages m ≡ true) (sym c.deref-3.ensures.value) board.rises;
-      named = subst (λ (m : List Message). named (length board.rules.now) m c.args.orders.now ≡ true) (sym c.deref-3.ensures.value) right;
-      room =
-          subst (λ (m : List Message). margin_count (board_of (map f board.rules.now) board.gateway m) ≤ length c.args.margins.now) (sym c.deref-3.ensures.value)
-          (omega (arith, c.if-margins-margin_count.false, count));
-    }
+    let b = board_in g.R.BusRule.answer c.args.self.now in
+    subst (λ n. margin_count (board_on g.R.BusRule.answer n) ≤ length c.args.margins.now) (sym c.in_ok-orders.ensures.1) (omega (arith, c.margin_count.ensures b.rules b.gateway))
 
-pub returns : goal.returns
-returns g c =
-    let board = c.args.self.now in
+pub returns-clause-answer : goal.returns-clause-answer
+returns-clause-answer g c =
     let f = g.R.BusRule.answer in
-    let ms = vec_items board.messages in
-    let rules = board.rules.now in
-    let rows = c.args.orders.now in
-    let some : is_none ms ≡ false =
-    some-are_there ms (λ e. eqb-false (vec_len board.messages) 0 (sym c.if-is_empty.ensures) (omega (arith, e, board.messages.ok.0)))
+    let board = c.args.self.now in
+    let b = board_in f board in
+    let r = c.write_margins.result in
+    -- what is told of the orders, told of the network and the rows that they were read from
+    let Told = λ (n : Network g.row.R.Denot) (rows : List Spot).
+    (r.0 ≡ all_met (net_on f n) (orders_in n.table.buses rows)) × Written (margin_rows (board_on f n) (orders_in n.table.buses rows)) c.args.margins.now c.write_margins.new.margins r.1
     in
-    let count : c.margin_count.result ≡ margin_count (board_in f board) =
-    c.margin_count.ensures (map f rules) board.gateway
-    ∙ ap (λ (m : List Message). margin_count (board_of (map f rules) board.gateway m)) c.deref.ensures.value
+    let told : Told board.network c.args.orders.now =
+    subst (λ n. Told n c.args.orders.now) c.in_ok-orders.ensures.1
+    (subst (Told c.in_ok-orders.orders.network.now) c.in_ok-orders.ensures.2 (c.write_margins.ensures.met, c.write_margins.ensures.rows))
     in
-    let right : named (length (map f rules)) ms rows ≡ true =
-    ap (λ n. named n ms rows) (length_map f rules)
-    ∙ sym (c.if-not-names_legs.ensures ∙ ap (λ (m : List Message). named (length rules) m rows) c.deref-2.ensures.value)
-    in
-    let met : c.write_margins.result.0 ≡ all_met (net_of (board_in f board)) (orders_in (length (map f rules)) rows) =
-    subst (λ (m : List Message). c.write_margins.result.0 ≡ all_met (net_of (board_of (map f rules) board.gateway m)) (orders_in (length rules) rows)) c.deref-3.ensures.value c.write_margins.ensures.met
-    ∙ ap (λ n. all_met (net_of (board_in f board)) (orders_in n rows)) (sym (length_map f rules))
-    in
-    let wrote : Written (margin_rows (board_in f board) (orders_in (length (map f rules)) rows)) c.args.margins.now c.write_margins.new.margins c.write_margins.result.1 =
-    subst (λ n. Written (margin_rows (board_in f board) (orders_in n rows)) c.args.margins.now c.write_margins.new.margins c.write_margins.result.1) (sym (length_map f rules))
-    (subst (λ (m : List Message). Written (margin_rows (board_of (map f rules) board.gateway m) (orders_in (length rules) rows)) c.args.margins.now c.write_margins.new.margins c.write_margins.result.1) c.deref-3.ensures.value c.write_margins.ensures.rows)
-    in record {
-      answer =
-          check_gives (board_in f board) (standing f board).left rows (length c.args.margins.now) some (omega (arith, c.if-margins-margin_count.false, count)) right
-          c.write_margins.result.0 c.write_margins.result.1 c.args.margins.now c.write_margins.new.margins met wrote;
-      rest =
-          ap (drop c.write_margins.result.1) wrote.rows
-          ∙ drop_at (margin_rows (board_in f board) (orders_in (length (map f rules)) rows)) (drop c.write_margins.result.1 c.args.margins.now) c.write_margins.result.1 (sym wrote.count);
-    }
+    check_gives b (standing f board).left c.args.orders.now (length c.args.margins.now) board.network.table.buses (counted g board) (sym c.if-is_empty.ensures)
+    (omega (arith, c.margin_count.ensures b.rules b.gateway)) c.in_ok-orders.ensures.0 r.0 r.1 c.args.margins.now c.write_margins.new.margins told.0 told.1

@@ -1,0 +1,36 @@
+use Rattle.std.proofs.Common.{[]}
+use Rattle.std.specs.Option.{option_map}
+use Rattle.search.specs.Stored.{unranked}
+use Rattle.boards.specs.Nets.{leg_at}
+use Rattle.planner.specs.Storage.{ranked_of, open_legs}
+use Rattle.planner.proofs.Listed.{message_there, message_listed, message_open, none-after_ready, next-after_unready}
+use Rattle.planner.proofs.table.Table.after_ranked.Goals as goal
+
+pub returns-in_err-message : goal.returns-in_err-message
+returns-in_err-message c count =
+    let t = c.args.self.now in
+    absurd (message_there t.messages.items t.rises (unranked (ranked_of c.args.ranked.now)) c.args.bus c.args.number c.requires c.find.result
+    c.find.ensures c.in_err-message.was)
+
+pub returns-then-is_ready : goal.returns-then-is_ready
+returns-then-is_ready c count =
+    let t = c.args.self.now in
+    none-after_ready t.messages.items c.args.number c.find.result c.find.ensures c.in_ok-message.message c.in_ok-message.was count c.args.bus
+    (ranked_of c.args.ranked.now) (open_legs t.messages.items c.args.ranked.now c.args.bus) t.rises c.if-is_ready.ensures
+
+pub next_candidate-requires-clause-listed : goal.next_candidate-requires-clause-listed
+next_candidate-requires-clause-listed c =
+    message_listed c.args.self.now.messages.items c.args.number c.find.result c.find.ensures c.in_ok-message.message c.in_ok-message.was
+
+pub next_candidate-requires-clause-open : goal.next_candidate-requires-clause-open
+next_candidate-requires-clause-open c =
+    let ms = c.args.self.now.messages.items in
+    message_open ms c.args.number c.find.result c.find.ensures c.in_ok-message.message c.in_ok-message.was c.args.bus
+    (open_legs ms c.args.ranked.now c.args.bus) c.requires
+
+pub returns : goal.returns
+returns c count =
+    let t = c.args.self.now in
+    next-after_unready t.messages.items c.args.number c.find.result c.find.ensures c.in_ok-message.message c.in_ok-message.was count c.args.bus
+    (ranked_of c.args.ranked.now) (open_legs t.messages.items c.args.ranked.now c.args.bus) t.rises c.if-is_ready.ensures
+    (option_map (leg_at c.args.bus) c.next_candidate.result) (c.next_candidate.ensures [] 0)
