@@ -6,25 +6,10 @@ ghost use Rattle.logs.specs.Lines.{call_of, answer_of};
 
 use crate::answer::Answer;
 use crate::call::Call;
-use crate::telling::{tell_attempt, tell_change, tell_look};
 use bus::rule::BusRule;
 use planner::board::Board;
 use planner::rows::{Margin, Row, Spot};
 use std::alloc::{AllocError, Global};
-
-const NO_ROW: Row = Row {
-    bus: 0,
-    rank: 0,
-    message: 0,
-    delay: 0,
-};
-
-const NO_MARGIN: Margin = Margin {
-    message: 0,
-    destination: 0,
-    margin: 0,
-    over: false,
-};
 
 fn give_list<'a, R: BusRule>(
     heap: Global,
@@ -33,7 +18,7 @@ fn give_list<'a, R: BusRule>(
 ) -> Result<Answer, AllocError>
     ensures { IfOk result (λ a. Gives (standing R.BusRule.answer board.now) (listing lent) (answer_of a) (standing R.BusRule.answer board.now)) }
 {
-    let mut rows = vec![in heap; NO_ROW; lent]?;
+    let mut rows = vec![in heap; Row::default(); lent]?;
     match board.list(&mut rows) {
         Ok(count) => {
             rows.truncate(count);
@@ -51,7 +36,7 @@ fn give_check<'a, R: BusRule>(
 ) -> Result<Answer, AllocError>
     ensures { IfOk result (λ a. Gives (standing R.BusRule.answer board.now) (checking orders.now lent) (answer_of a) (standing R.BusRule.answer board.now)) }
 {
-    let mut margins = vec![in heap; NO_MARGIN; lent]?;
+    let mut margins = vec![in heap; Margin::default(); lent]?;
     match board.check(orders, &mut margins) {
         Ok((meets, count)) => {
             margins.truncate(count);
@@ -71,10 +56,10 @@ pub(crate) fn give<'a, R: BusRule>(
     ensures kept { OnErr result (board.new ≡ board.old) }
 {
     match call {
-        Call::Enter(entry) => Ok(tell_change(board.enter(*entry))),
-        Call::Withdraw(number) => Ok(tell_change(board.withdraw(*number))),
-        Call::Attempt(tries) => Ok(tell_attempt(board.attempt(*tries))),
-        Call::Look(bus, message) => Ok(tell_look(board.look(*bus, *message))),
+        Call::Enter(entry) => Ok(board.enter(*entry).into()),
+        Call::Withdraw(number) => Ok(board.withdraw(*number).into()),
+        Call::Attempt(tries) => Ok(board.attempt(*tries).into()),
+        Call::Look(bus, message) => Ok(board.look(*bus, *message).into()),
         Call::List(lent) => give_list(heap, board, *lent),
         Call::Check(orders, lent) => give_check(heap, board, orders, *lent),
     }

@@ -53,15 +53,9 @@ pub fn run_log<'a, R: BusRule>(
     ensures few { WhereMade result (length answers.new.items ≤ length calls.now) }
     ensures all { OnOk result (length answers.new.items ≡ length calls.now) }
 {
-    if let Err(refusal) = board.make(rules, gateway) {
-        return Err(LogFault::Refused(refusal));
-    }
+    board.make(rules, gateway)?;
     answers.clear();
-    if answers.reserve(calls.len()).is_err() {
-        return Err(LogFault::Memory);
-    }
-    match give_all(heap, board, calls, answers) {
-        Ok(()) => Ok(()),
-        Err(_) => Err(LogFault::Memory),
-    }
+    answers.reserve(calls.len())?;
+    give_all(heap, board, calls, answers)?;
+    Ok(())
 }

@@ -7,29 +7,37 @@ use crate::answer::Answer;
 use bus::refusal::Refusal;
 use planner::progress::Tried;
 
-pub(crate) fn tell_change(res: Result<(), Refusal>) -> Answer
-    ensures { answer_of result ≡ changed res }
-{
-    match res {
-        Ok(()) => Answer::Done,
-        Err(refusal) => Answer::Refused(refusal),
+// Of an enter or a withdraw.
+impl From<Result<(), Refusal>> for Answer {
+    ghost from_gives = { λ res answer. answer_of answer ≡ changed res };
+
+    fn from(res: Result<(), Refusal>) -> Answer {
+        match res {
+            Ok(()) => Answer::Done,
+            Err(refusal) => Answer::Refused(refusal),
+        }
     }
 }
 
-pub(crate) fn tell_attempt(res: Result<Tried, Refusal>) -> Answer
-    ensures { answer_of result ≡ tries res }
-{
-    match res {
-        Ok(tried) => Answer::Tried(tried),
-        Err(refusal) => Answer::Refused(refusal),
+impl From<Result<Tried, Refusal>> for Answer {
+    ghost from_gives = { λ res answer. answer_of answer ≡ tries res };
+
+    fn from(res: Result<Tried, Refusal>) -> Answer {
+        match res {
+            Ok(tried) => Answer::Tried(tried),
+            Err(refusal) => Answer::Refused(refusal),
+        }
     }
 }
 
-pub(crate) fn tell_look(res: Result<(u8, u64), Refusal>) -> Answer
-    ensures { answer_of result ≡ looks res }
-{
-    match res {
-        Ok((rank, delay)) => Answer::Looked(rank, delay),
-        Err(refusal) => Answer::Refused(refusal),
+// Of a look: the rank and the delay.
+impl From<Result<(u8, u64), Refusal>> for Answer {
+    ghost from_gives = { λ res answer. answer_of answer ≡ looks res };
+
+    fn from(res: Result<(u8, u64), Refusal>) -> Answer {
+        match res {
+            Ok((rank, delay)) => Answer::Looked(rank, delay),
+            Err(refusal) => Answer::Refused(refusal),
+        }
     }
 }

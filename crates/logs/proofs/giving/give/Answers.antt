@@ -10,8 +10,8 @@ returns-in-Enter g c =
     let s = standing g.R.BusRule.answer c.args.board.now in
     let t = standing g.R.BusRule.answer c.enter.new.self in record {
       answer =
-          subst (λ x. Gives s (call_of x) (answer_of c.tell_change.result) t) (sym c.in-Enter.is)
-          (subst (λ a. Gives s (enter c.in-Enter.entry) a t) (sym c.tell_change.ensures) c.enter.ensures.answer);
+          subst (λ x. Gives s (call_of x) (answer_of c.into.result) t) (sym c.in-Enter.is)
+          (subst (λ a. Gives s (enter c.in-Enter.entry) a t) (sym c.into.ensures) c.enter.ensures.answer);
       kept = tt;
     }
 
@@ -20,8 +20,8 @@ returns-in-Withdraw g c =
     let s = standing g.R.BusRule.answer c.args.board.now in
     let t = standing g.R.BusRule.answer c.withdraw.new.self in record {
       answer =
-          subst (λ x. Gives s (call_of x) (answer_of c.tell_change-in-Withdraw.result) t) (sym c.in-Withdraw.is)
-          (subst (λ a. Gives s (withdraw c.in-Withdraw.number) a t) (sym c.tell_change-in-Withdraw.ensures) c.withdraw.ensures.answer);
+          subst (λ x. Gives s (call_of x) (answer_of c.into-in-Withdraw.result) t) (sym c.in-Withdraw.is)
+          (subst (λ a. Gives s (withdraw c.in-Withdraw.number) a t) (sym c.into-in-Withdraw.ensures) c.withdraw.ensures.answer);
       kept = tt;
     }
 
@@ -30,8 +30,8 @@ returns-in-Attempt g c =
     let s = standing g.R.BusRule.answer c.args.board.now in
     let t = standing g.R.BusRule.answer c.attempt.new.self in record {
       answer =
-          subst (λ x. Gives s (call_of x) (answer_of c.tell_attempt.result) t) (sym c.in-Attempt.is)
-          (subst (λ a. Gives s (attempt c.in-Attempt.tries) a t) (sym c.tell_attempt.ensures) c.attempt.ensures.answer);
+          subst (λ x. Gives s (call_of x) (answer_of c.into-in-Attempt.result) t) (sym c.in-Attempt.is)
+          (subst (λ a. Gives s (attempt c.in-Attempt.tries) a t) (sym c.into-in-Attempt.ensures) c.attempt.ensures.answer);
       kept = tt;
     }
 
@@ -39,8 +39,8 @@ pub returns-in-Look : goal.returns-in-Look
 returns-in-Look g c =
     let s = standing g.R.BusRule.answer c.args.board.now in record {
       answer =
-          subst (λ x. Gives s (call_of x) (answer_of c.tell_look.result) s) (sym c.in-Look.is)
-          (subst (λ a. Gives s (look c.in-Look.bus c.in-Look.message) a s) (sym c.tell_look.ensures) c.look.ensures);
+          subst (λ x. Gives s (call_of x) (answer_of c.into-in-Look.result) s) (sym c.in-Look.is)
+          (subst (λ a. Gives s (look c.in-Look.bus c.in-Look.message) a s) (sym c.into-in-Look.ensures) c.look.ensures);
       kept = tt;
     }
 
