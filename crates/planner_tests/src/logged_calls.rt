@@ -1,5 +1,5 @@
 // Whole lists of calls, and what each of them answers.
-use crate::shared_boards::{entry, rules};
+use crate::shared_boards::{entry, margin, row, rules, spot};
 use bus::refusal::Refusal;
 use frames::can11::Can11;
 use frames::equation::Equation;
@@ -9,30 +9,7 @@ use logs::log_fault::LogFault;
 use logs::running::run_log;
 use planner::board::Board;
 use planner::progress::{Progress, Tried};
-use planner::rows::{Margin, Row, Spot};
 use std::test::Fail;
-
-fn row(bus: u8, rank: u8, message: u8, delay: u64) -> Row {
-    Row {
-        bus,
-        rank,
-        message,
-        delay,
-    }
-}
-
-fn spot(bus: u8, message: u8) -> Spot {
-    Spot { bus, message }
-}
-
-fn margin(message: u8, destination: u8, margin: i64) -> Margin {
-    Margin {
-        message,
-        destination,
-        margin,
-        over: false,
-    }
-}
 
 fn tried(progress: Progress, made: u64) -> Answer {
     Answer::Tried(Tried { progress, made })

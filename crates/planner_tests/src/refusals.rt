@@ -1,33 +1,16 @@
 // Every refusal of the calls, and that the smallest number is given.
-use crate::shared_boards::{crossing, entry, rules};
+use crate::shared_boards::{crossing, entry, rules, spot};
 use bus::refusal::Refusal;
 use frames::can11::Can11;
 use frames::equation::Equation;
 use planner::board::Board;
-use planner::rows::{Margin, Row, Spot};
+use planner::rows::{Margin, Row};
 use std::test::Fail;
 
 // The refusal's number, 0 where the call was accepted.
 fn number<T: Drop>(res: Result<T, Refusal>) -> u8 {
-    match res {
-        Ok(_) => 0,
-        Err(refusal) => refusal.number(),
-    }
+    res.err().map_or(0, |refusal| refusal.number())
 }
-
-const ROW: Row = Row {
-    bus: 0,
-    rank: 0,
-    message: 0,
-    delay: 0,
-};
-
-const MARGIN: Margin = Margin {
-    message: 0,
-    destination: 0,
-    margin: 0,
-    over: false,
-};
 
 #[test]
 fn place_without_a_board(rt: HostRuntime) -> Result<(), Fail> {
@@ -40,8 +23,8 @@ fn place_without_a_board(rt: HostRuntime) -> Result<(), Fail> {
     assert_eq!(rt; number(board.attempt(0)), 3);
     assert_eq!(rt; number(board.look(1, 1)), 4);
     assert_eq!(rt; number(board.look(9, 1)), 3);
-    assert_eq!(rt; number(board.list(&mut [ROW; 1])), 9);
-    assert_eq!(rt; number(board.check(&[], &mut [MARGIN; 1])), 8);
+    assert_eq!(rt; number(board.list(&mut [Row::default(); 1])), 9);
+    assert_eq!(rt; number(board.check(&[], &mut [Margin::default(); 1])), 8);
     Ok(())
 }
 
@@ -90,9 +73,8 @@ fn smaller_number_first(rt: HostRuntime) -> Result<(), Fail> {
     board.withdraw(7)?;
     assert_eq!(rt; number(board.attempt(0)), 3, "3 before 8");
     assert_eq!(rt; number(board.attempt(1)), 8);
-    let spot = Spot { bus: 1, message: 7 };
     assert_eq!(rt;
-        number(board.check(&[spot], &mut [MARGIN; 0])),
+        number(board.check(&[spot(1, 7)], &mut [Margin::default(); 0])),
         8,
         "8 before 11"
     );
@@ -106,13 +88,13 @@ fn looking_and_listing(rt: HostRuntime) -> Result<(), Fail> {
     board.make(&rules, 100_000)?;
     crossing(&mut board, 1_500_000)?;
     assert_eq!(rt; number(board.attempt(1_000_001)), 3);
-    assert_eq!(rt; number(board.list(&mut [ROW; 0])), 9);
+    assert_eq!(rt; number(board.list(&mut [Row::default(); 0])), 9);
     assert_eq!(rt; number(board.look(1, 1)), 9);
     assert_eq!(rt; number(board.look(1, 3)), 7);
     assert_eq!(rt; number(board.look(3, 1)), 4);
     assert_eq!(rt; number(board.attempt(5)), 0);
-    assert_eq!(rt; number(board.list(&mut [ROW; 3])), 10);
-    assert_eq!(rt; number(board.list(&mut [ROW; 4])), 0);
+    assert_eq!(rt; number(board.list(&mut [Row::default(); 3])), 10);
+    assert_eq!(rt; number(board.list(&mut [Row::default(); 4])), 0);
     assert_eq!(rt; number(board.look(2, 2)), 0);
     Ok(())
 }
@@ -123,11 +105,17 @@ fn checking(rt: HostRuntime) -> Result<(), Fail> {
     let mut board = Board::new(rt.alloc())?;
     board.make(&rules, 100_000)?;
     crossing(&mut board, 1_500_000)?;
-    let spot = Spot { bus: 1, message: 1 };
-    assert_eq!(rt; number(board.check(&[spot], &mut [MARGIN; 1])), 10);
-    assert_eq!(rt; number(board.check(&[spot], &mut [MARGIN; 2])), 11);
+    let first = spot(1, 1);
     assert_eq!(rt;
-        number(board.check(&[spot, spot, spot, spot], &mut [MARGIN; 2])),
+        number(board.check(&[first], &mut [Margin::default(); 1])),
+        10
+    );
+    assert_eq!(rt;
+        number(board.check(&[first], &mut [Margin::default(); 2])),
+        11
+    );
+    assert_eq!(rt;
+        number(board.check(&[first; 4], &mut [Margin::default(); 2])),
         11
     );
     Ok(())

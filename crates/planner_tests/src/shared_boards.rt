@@ -1,8 +1,9 @@
-// Boards that the tests share: two classic buses with a bit time of 2000 ns, and a gateway time of 100,000 ns.
+// Boards and rows that the tests share: two classic buses with a bit time of 2000 ns, and a gateway time of 100,000 ns.
 use bus::entry::Entry;
 use frames::can11::Can11;
 use frames::equation::Equation;
 use planner::board::Board;
+use planner::rows::{Margin, Row, Spot};
 use std::test::Fail;
 
 pub(crate) fn rules() -> Result<[Equation<Can11>; 2], Fail> {
@@ -34,4 +35,27 @@ pub(crate) fn crossing(board: &mut Board<'_, Equation<Can11>>, deadline: u64) ->
     board.enter(entry(1, 1, 2, deadline))?;
     board.enter(entry(2, 1, 2, deadline))?;
     Ok(())
+}
+
+pub(crate) fn row(bus: u8, rank: u8, message: u8, delay: u64) -> Row {
+    Row {
+        bus,
+        rank,
+        message,
+        delay,
+    }
+}
+
+pub(crate) fn spot(bus: u8, message: u8) -> Spot {
+    Spot { bus, message }
+}
+
+// A margin of legs of which none is over.
+pub(crate) fn margin(message: u8, destination: u8, margin: i64) -> Margin {
+    Margin {
+        message,
+        destination,
+        margin,
+        over: false,
+    }
 }

@@ -8,13 +8,6 @@ use planner::rows::Row;
 use std::process::Abort;
 use std::test::Fail;
 
-const ROW: Row = Row {
-    bus: 0,
-    rank: 0,
-    message: 0,
-    delay: 0,
-};
-
 // The walk of ten tries, so many at a time.
 fn in_pieces(rt: &(impl Abort + AllocGlobal), piece: u64) -> Result<u64, Fail> {
     let rules = rules()?;
@@ -77,7 +70,7 @@ fn eight_buses_and_seven_destinations(rt: HostRuntime) -> Result<(), Fail> {
     board.enter(entry(1, 8, 0, 10_000_000))?;
     let tried = board.attempt(1_000_000)?;
     assert_eq!(rt; tried.progress, Progress::Found);
-    let mut rows = [ROW; 9];
+    let mut rows = [Row::default(); 9];
     assert_eq!(rt; board.list(&mut rows)?, 9);
     let (rank, delay) = board.look(8, 64)?;
     assert_eq!(rt; rank, 1);
@@ -94,7 +87,7 @@ fn a_board_made_anew(rt: HostRuntime) -> Result<(), Fail> {
     assert_eq!(rt; board.attempt(9)?.progress, Progress::Found);
     board.make(&rules, 0)?;
     assert!(rt; board.attempt(9).is_err(), "no messages");
-    assert!(rt; board.list(&mut [ROW; 9]).is_err(), "not found");
+    assert!(rt; board.list(&mut [Row::default(); 9]).is_err(), "not found");
     board.enter(entry(1, 1, 2, 1_500_000))?;
     assert_eq!(rt; board.attempt(9)?.made, 2);
     Ok(())

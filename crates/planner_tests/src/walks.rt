@@ -1,18 +1,9 @@
 // What the walk comes to, in one call and in many.
-use crate::shared_boards::{crossing, entry, rules};
+use crate::shared_boards::{crossing, entry, row, rules};
 use planner::board::Board;
 use planner::progress::Progress;
 use planner::rows::Row;
 use std::test::Fail;
-
-fn row(bus: u8, rank: u8, message: u8, delay: u64) -> Row {
-    Row {
-        bus,
-        rank,
-        message,
-        delay,
-    }
-}
 
 #[test]
 fn found_after_five_tries(rt: HostRuntime) -> Result<(), Fail> {
@@ -23,18 +14,16 @@ fn found_after_five_tries(rt: HostRuntime) -> Result<(), Fail> {
     let tried = board.attempt(1_000_000)?;
     assert_eq!(rt; tried.progress, Progress::Found);
     assert_eq!(rt; tried.made, 5);
-    let mut rows = [row(0, 0, 0, 0); 5];
+    let mut rows = [Row::default(); 5];
     assert_eq!(rt; board.list(&mut rows)?, 4);
     let expected = [
         row(1, 1, 2, 540_000),
         row(1, 2, 1, 810_000),
         row(2, 1, 1, 540_000),
         row(2, 2, 2, 810_000),
-        row(0, 0, 0, 0),
+        Row::default(),
     ];
-    for i in 0..5 {
-        assert_eq!(rt; rows[i], expected[i]);
-    }
+    assert_eq!(rt; rows, expected);
     let (rank, delay) = board.look(1, 1)?;
     assert_eq!(rt; rank, 2);
     assert_eq!(rt; delay, 810_000);

@@ -3,28 +3,21 @@
 
 mod prints;
 
-use anyhow::anyhow;
+use anyhow::Context;
 use bus::entry::Entry;
-use bus::refusal::Refusal;
 use frames::can11::Can11;
 use frames::equation::Equation;
 use planner::board::Board;
 use planner::progress::Progress;
-use prints::{Named, print_margins, print_rows};
+use prints::{print_margins, print_rows};
 
-type Trailer<'a> = Board<'a, Equation<Can11>>;
-
-fn accepted<T: Drop>(res: Result<T, Refusal>) -> anyhow::Result<T> {
-    match res {
-        Ok(value) => Ok(value),
-        Err(_) => Err(anyhow!("a call was refused")),
-    }
-}
+// The board of this program: both buses are classic, by the equation rule.
+pub(crate) type Trailer<'a> = Board<'a, Equation<Can11>>;
 
 // Two messages of 8 bytes that cross from bus 1 to bus 2 every 10 ms, with this deadline.
 fn enter_both(board: &mut Trailer<'_>, deadline: u64) -> anyhow::Result<()> {
     for number in 1..=2 {
-        accepted(board.enter(Entry {
+        board.enter(Entry {
             number,
             source: 1,
             destinations: 2,
@@ -32,7 +25,7 @@ fn enter_both(board: &mut Trailer<'_>, deadline: u64) -> anyhow::Result<()> {
             period: 10_000_000,
             deadline,
             jitter: 0,
-        }))?;
+        })?;
     }
     Ok(())
 }
@@ -41,36 +34,29 @@ fn enter_both(board: &mut Trailer<'_>, deadline: u64) -> anyhow::Result<()> {
 fn walk(rt: &HostRuntime, board: &mut Trailer<'_>) -> anyhow::Result<u64> {
     let mut sum: u64 = 0;
     for _ in 0..100 {
-        let tried = accepted(board.attempt(1))?;
+        let tried = board.attempt(1)?;
         sum = sum.saturating_add(tried.made);
-        let progress = Named(tried.progress);
-        println!(rt; "try {sum}: {progress}")?;
-        match tried.progress {
-            Progress::GoingOn => (),
-            Progress::Found => return Ok(sum),
-            Progress::Nothing => return Ok(sum),
+        println!(rt; "try {sum}: {}", tried.progress)?;
+        if tried.progress != Progress::GoingOn {
+            break;
         }
     }
     Ok(sum)
 }
 
 fn run(rt: &HostRuntime) -> anyhow::Result<()> {
-    let Ok(first) = Can11::new(2000) else {
-        return Err(anyhow!("the bit time of bus 1 is out of range"));
-    };
-    let Ok(second) = Can11::new(2000) else {
-        return Err(anyhow!("the bit time of bus 2 is out of range"));
-    };
+    let first = Can11::new(2000).context("the bit time of bus 1 is out of range")?;
+    let second = Can11::new(2000).context("the bit time of bus 2 is out of range")?;
     let rules = [Equation { carrier: first }, Equation { carrier: second }];
     let mut board = Board::new(rt.alloc())?;
-    accepted(board.make(&rules, 100_000))?;
+    board.make(&rules, 100_000)?;
     println!(rt; "deadlines 1500000")?;
     enter_both(&mut board, 1_500_000)?;
     let _ = walk(rt, &mut board)?;
     print_rows(rt, &board)?;
     print_margins(rt, &board)?;
-    accepted(board.withdraw(1))?;
-    accepted(board.withdraw(2))?;
+    board.withdraw(1)?;
+    board.withdraw(2)?;
     println!(rt; "deadlines 1449999")?;
     enter_both(&mut board, 1_449_999)?;
     let tries = walk(rt, &mut board)?;
