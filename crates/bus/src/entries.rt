@@ -1,6 +1,6 @@
 // From what a caller gives to a message.
-ghost use Rattle.std.specs.Prelude.{◌≡◌, ◌≤◌, Bool, Some, None, MatchResult};
-ghost use Rattle.bus.specs.Entries.{in_range, entry_fault, Holds, Makes};
+ghost use Rattle.std.specs.Prelude.{◌≡◌, ◌≤◌, Bool};
+ghost use Rattle.bus.specs.Entries.{in_range, Makes};
 
 use crate::entry::Entry;
 use crate::leg_set::has;
@@ -45,14 +45,5 @@ impl TryFrom<Entry> for Message {
             deadline: given.deadline,
             jitter: given.jitter,
         })
-    }
-}
-
-impl Message {
-    // The message with these values, or why there is none.
-    pub fn new(given: Entry) -> Result<Message, Refusal>
-        ensures { MatchResult result (λ m. (entry_fault given ≡ None) × Holds given m) (λ f. entry_fault given ≡ Some f) }
-    {
-        Message::try_from(given)
     }
 }

@@ -41,12 +41,8 @@ fn print_bus<C: Carrier>(
 
 // The trailer has a classic bus and a CAN FD bus, both at 500 kbit/s, with 2 Mbit/s in the data phase.
 fn run(rt: &HostRuntime) -> anyhow::Result<()> {
-    let can = Can11::new(2000)
-        .ok()
-        .context("the bit time of bus 1 is out of range")?;
-    let fd = Fd11::new(2000, 500)
-        .ok()
-        .context("a bit time of bus 2 is out of range")?;
+    let can = Can11::new(2000).context("the bit time of bus 1 is out of range")?;
+    let fd = Fd11::new(2000, 500).context("a bit time of bus 2 is out of range")?;
     let messages = messages(rt.alloc())?;
     let first = legs_on(rt.alloc(), &messages, 1)?;
     let second = legs_on(rt.alloc(), &messages, 2)?;

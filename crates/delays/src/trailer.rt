@@ -82,10 +82,6 @@ const TABLE: [Entry; 8] = [
 pub(crate) fn messages(heap: Global) -> anyhow::Result<Vec<Message>> {
     TABLE
         .into_iter()
-        .map(|entry| {
-            Message::new(entry)
-                .ok()
-                .context("a message of the trailer is refused")
-        })
+        .map(|entry| Message::try_from(entry).context("a message of the trailer is refused"))
         .try_collect(heap)
 }

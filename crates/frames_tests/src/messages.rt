@@ -20,7 +20,7 @@ fn plain() -> Entry {
 
 // The refusal's number, 0 where the message is made.
 fn outcome(entry: Entry) -> u8 {
-    Message::new(entry)
+    Message::try_from(entry)
         .err()
         .map_or(0, |refusal| refusal.number())
 }
@@ -98,7 +98,7 @@ fn smallest_number_first(rt: HostRuntime) {
 
 #[test]
 fn legs_by_bus(rt: HostRuntime) -> Result<(), Fail> {
-    let message = Message::new(plain())?;
+    let message = Message::try_from(plain())?;
     for (bus, source) in [
         (0, None),
         (1, Some(true)),

@@ -22,7 +22,7 @@ fn leg(number: u64, source: u64, period: u64, deadline: u64, jitter: u64) -> Res
         deadline,
         jitter,
     };
-    let leg = Message::new(entry)?
+    let leg = Message::try_from(entry)?
         .leg_on(1)
         .ok_or("the message has no leg on bus 1")?;
     Ok(leg)
