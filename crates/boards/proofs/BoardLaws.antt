@@ -1,38 +1,31 @@
 -- The theorems of the walk, for every board.
-use Rattle.std.proofs.Common.{◌≡◌, Bool, true, false, cond, List, [], ◌∷◌, ◌++◌, map, refl, ap, ◌∙◌}
-use Rattle.std.specs.List.{flat_map, filter, AllByRecursion}
-use Rattle.std.proofs.lemmas.Bool.{and_parts, eqb-true}
+use Rattle.std.proofs.Common.{◌≡◌, true, false, List, [], ◌∷◌, map, get_or, refl, ap, ◌∙◌, arith}
+use Rattle.std.specs.List.{list_all, flat_map, filter, AllByRecursion}
+use Rattle.std.proofs.lemmas.Bool.{eqb-true}
+use Rattle.std.proofs.lemmas.List.Elements.{All-map, filter_agree, recursion_from_All}
 use Rattle.bus.specs.Numbered.{member}
 use Rattle.bus.specs.Rules.{Meaning}
 use Rattle.bus.specs.declared.message.Message.{Message}
 use Rattle.bus.proofs.Members.{member-none}
-use Rattle.search.specs.Lists.{every}
 use Rattle.search.proofs.Found.{found-meets}
 use Rattle.search.proofs.Dead.{none-meets}
 use Rattle.search.proofs.Bound.{within-bound}
 use Rattle.search.proofs.LocalBound.{within-local_bound}
 use Rattle.boards.specs.Boards.{Board, board_of, bus_count, Keeps, Sound}
-use Rattle.boards.specs.Nets.{bus_numbers, is_local, destinations_of, pair_to, pairs_of, net_of}
+use Rattle.boards.specs.Nets.{bus_numbers, is_local, pair_to, pairs_of, net_of}
 use Rattle.boards.specs.Laws.{TriesWithinLocalBound, WalkLawsHold, WalkLawsOver, LegsDistinct}
 use Rattle.boards.proofs.Buses.{buses-distinct}
 use Rattle.boards.proofs.Lawful.{board-lawful}
 
 -- ---------------------------------------------------------------- where no message crosses
-kept-none : {X : Type 0} (f : X → Bool) → ((x : X) → f x ≡ false) → (xs : List X) → filter f xs ≡ []
-kept-none f h [] = refl
-kept-none f h (x ∷ xs) = ap (λ t. cond t (x ∷ filter f xs) (filter f xs)) (h x) ∙ kept-none f h xs
-
 pub local_no_pairs : (m : Message) → is_local m ≡ true → pairs_of m ≡ []
 local_no_pairs m h =
-    let nowhere : destinations_of m ≡ [] =
-    ap (λ bits. filter (member bits) (bus_numbers 8)) (eqb-true m.destinations 0 h) ∙ kept-none (member 0) member-none (bus_numbers 8) in
-    ap (map (pair_to m)) nowhere
+    ap (λ bits. map (pair_to m) (filter (member bits) (bus_numbers 8))) (eqb-true m.destinations 0 h)
+    ∙ ap (map (pair_to m)) (filter_agree (member 0) (λ _. false) member-none (bus_numbers 8))
 
-no_pairs : (ms : List Message) → every is_local ms ≡ true → flat_map pairs_of ms ≡ []
+no_pairs : (ms : List Message) → list_all is_local ms ≡ true → flat_map pairs_of ms ≡ []
 no_pairs [] h = refl
-no_pairs (m ∷ ms) h =
-    let both = and_parts (is_local m) (every is_local ms) h in
-    ap (λ l. l ++ flat_map pairs_of ms) (local_no_pairs m both.0) ∙ no_pairs ms both.1
+no_pairs (m ∷ ms) h = grind (arith, local_no_pairs m, no_pairs ms)
 
 tries-within_local_bound : (b : Board) → TriesWithinLocalBound b
 tries-within_local_bound b h = within-local_bound (net_of b) (no_pairs b.messages h)
@@ -52,8 +45,7 @@ legs_distinct b sound = buses-distinct b.messages sound.messages.rise (bus_numbe
 
 -- ---------------------------------------------------------------- rules that are lent
 pub keeps-each : {S : Type 0} (f : S → Meaning) → ((s : S) → Keeps (f s)) → (xs : List S) → AllByRecursion Keeps (map f xs)
-keeps-each f keeps [] = tt
-keeps-each f keeps (x ∷ xs) = (keeps x, keeps-each f keeps xs)
+keeps-each f keeps xs = recursion_from_All Keeps (map f xs) (All-map Keeps f xs (λ k d within. keeps (get_or xs k d)))
 
 pub walk_laws-over : {S : Type 0} (f : S → Meaning) → ((s : S) → Keeps (f s)) → (xs : List S) → WalkLawsOver (map f xs)
 walk_laws-over f keeps xs gateway ms few belong =

@@ -1,9 +1,8 @@
 -- A board: the rules of its buses, the gateway's time and the messages; and what is asked of one.
 use Rattle.std.specs.Prelude.{◌≡◌, ℕ, zero, suc, ◌^◌, ◌≤◌, Bool, true, cond, ◌&&◌, List, [], ◌∷◌, length, Some, None, Option, ◌==◌, nat_le, nat_lt}
-use Rattle.std.specs.List.{AllByRecursion}
+use Rattle.std.specs.List.{list_all, AllByRecursion}
 use Rattle.bus.specs.Rules.{Meaning, Bounded, Absent, Shorter}
 use Rattle.bus.specs.declared.message.Message.{Message}
-use Rattle.search.specs.Lists.{every}
 
 pub record Board : Type 0 where
   -- the rules as functions; the first is that of bus 1
@@ -57,7 +56,7 @@ pub record Keeps (f : Meaning) : Type 0 where
 -- the messages belong on a board of n buses
 pub record Belong (n : ℕ) (ms : List Message) : Type 0 where
   pub rise : rising_messages ms ≡ true
-  pub on_buses : every (on_board n) ms ≡ true
+  pub on_buses : list_all (on_board n) ms ≡ true
 
 -- all that is asked of a board
 pub record Sound (b : Board) : Type 0 where

@@ -3,7 +3,7 @@ use Rattle.std.specs.Prelude.{◌≡◌, ℕ, ◌≤◌, true, List, length, is_
 use Rattle.bus.specs.Legs.{leg_of, legs_on, rising}
 use Rattle.bus.specs.Rules.{Meaning}
 use Rattle.bus.specs.declared.message.Message.{Message}
-use Rattle.search.specs.Lists.{every}
+use Rattle.std.specs.List.{list_all}
 use Rattle.search.specs.Net.{Leg, has}
 use Rattle.search.specs.Deadlines.{Meets}
 use Rattle.search.specs.Walk.{walk}
@@ -31,7 +31,7 @@ TriesWithinBound b = (walk (net_of b)).tries ≤ bound (net_of b).buses
 
 -- where no message crosses: n(n+1)/2 added over the buses, n the number of legs of a bus
 abbrev pub TriesWithinLocalBound : Board → Type 0
-TriesWithinLocalBound b = every is_local b.messages ≡ true → (walk (net_of b)).tries ≤ local_bound (net_of b).buses
+TriesWithinLocalBound b = list_all is_local b.messages ≡ true → (walk (net_of b)).tries ≤ local_bound (net_of b).buses
 
 pub record WalkLaws (b : Board) : Type 0 where
   pub found : FoundOrdersMeet b
@@ -54,7 +54,7 @@ LegsRise = (ms : List Message) (bus : ℕ) → rising_messages ms ≡ true → r
 
 -- no bus has a leg twice
 abbrev pub LegsDistinct : Type 0
-LegsDistinct = (b : Board) → Sound b → every distinct (net_of b).buses ≡ true
+LegsDistinct = (b : Board) → Sound b → list_all distinct (net_of b).buses ≡ true
 
 -- a rule is shown a leg of a message exactly where the net's list of that bus has it
 abbrev pub LegsListed : Type 0

@@ -1,7 +1,8 @@
 -- A bridge over a rule with the rule laws keeps them.
-use Rattle.std.specs.Prelude.{◌≡◌, ℕ, ◌+◌, ◌≤◌, Bool, true, false, cond, Some, None, Option, nat_le, refl}
+use Rattle.std.specs.Prelude.{◌≡◌, ℕ, ◌+◌, ◌≤◌, Some, None, Option, nat_le, refl}
 use Rattle.std.proofs.Common.{ap, ◌∙◌, arith}
 use Rattle.std.proofs.lemmas.Bool.{leb-true, le-leb, cond-true}
+use Rattle.std.proofs.lemmas.Option.{none-some, cond_some}
 use Rattle.bus.specs.Bridges.{lengthened, bridged}
 use Rattle.bus.specs.Legs.{leg_of}
 use Rattle.bus.specs.Rules.{Meaning, Bounded, Absent, Shorter}
@@ -17,15 +18,11 @@ pub record Came (r : ℕ) (l : Option Leg) (o : Option ℕ) (d : ℕ) : Type 0 w
   pub within : d ≤ leg.message.deadline
 
 came : (r : ℕ) (l : Option Leg) (o : Option ℕ) (d : ℕ) → lengthened r l o ≡ Some d → Came r l o d
-came r None o d e = let z : ◌≡◌ {A = ℕ} 0 1 = cc in absurd (omega arith)
-came r (Some leg) None d e = let z : ◌≡◌ {A = ℕ} 0 1 = cc in absurd (omega arith)
-came r (Some leg) (Some b) d e = go (nat_le (b + r) leg.message.deadline) refl e
-  where
-    go : (t : Bool) → nat_le (b + r) leg.message.deadline ≡ t → cond t (Some (b + r)) None ≡ Some d → Came r (Some leg) (Some b) d
-    go true p q =
-        let s : b + r ≡ d = cc in
-        record { leg = leg; inner = b; here = refl; gave = refl; sum = s; within = omega (arith, leb-true _ _ p) }
-    go false p q = let z : ◌≡◌ {A = ℕ} 0 1 = cc in absurd (omega arith)
+came r None o d e = absurd (none-some d e)
+came r (Some leg) None d e = absurd (none-some d e)
+came r (Some leg) (Some b) d e =
+    let p = cond_some (nat_le (b + r) leg.message.deadline) (b + r) d e in
+    record { leg = leg; inner = b; here = refl; gave = refl; sum = p.1; within = omega (arith, leb-true _ _ p.0, p.1) }
 
 pub bridged-bounded : (r : ℕ) (f : Meaning) → Bounded (bridged r f)
 bridged-bounded r f legs n h leg d rises here e =

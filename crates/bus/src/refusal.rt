@@ -1,6 +1,6 @@
 // Why a call is refused. Where several reasons apply, a call gives the one with the smallest number.
-ghost use Rattle.std.specs.Prelude.{◌≡◌};
-ghost use Rattle.bus.specs.Refusals.{number_of};
+ghost use Rattle.std.specs.Prelude.{◌≡◌, Some};
+ghost use Rattle.bus.specs.Refusals.{number_of, said};
 
 use std::error::Error;
 use std::fmt;
@@ -40,6 +40,8 @@ impl Refusal {
 }
 
 impl fmt::Display for Refusal {
+    ghost output = { λ r. Some (said r) };
+
     fn fmt<W: fmt::Write>(&self, f: &mut fmt::Formatter<W>) -> fmt::Result {
         f.write_str(match self {
             Refusal::Form => "a line of the sheet breaks the form",

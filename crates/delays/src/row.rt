@@ -3,17 +3,17 @@ use std::fmt;
 
 // A delay in nanoseconds, or over.
 #[derive(Clone, Copy)]
-pub struct Delay(pub Option<u64>);
+pub(crate) struct Delay(pub(crate) Option<u64>);
 
 #[derive(Clone, Copy)]
-pub struct Row {
-    pub number: u8,
+pub(crate) struct Row {
+    pub(crate) number: u8,
     // the time of the frames
-    pub frame: u64,
+    pub(crate) frame: u64,
     // the delay with nothing above the leg
-    pub highest: Delay,
+    pub(crate) highest: Delay,
     // the delay with every other leg of the bus above it
-    pub lowest: Delay,
+    pub(crate) lowest: Delay,
 }
 
 impl fmt::Display for Delay {

@@ -1,1 +1,2 @@
+pub mod FdSums
 pub mod WorkedNumbers

@@ -1,7 +1,8 @@
 -- The delay of the least solution, in both directions; and that a smaller right side gives no longer a delay.
 use Rattle.std.specs.Prelude.{◌≡◌, ℕ, ◌+◌, ◌<◌, ◌≤◌, Some, None, Option}
-use Rattle.std.proofs.Common.{ap, ◌∙◌, ⊎_elim, arith}
+use Rattle.std.proofs.Common.{sym, ap, ◌∙◌, ⊎_elim, arith}
 use Rattle.std.proofs.lemmas.Bool.{cases_lt, cond-true, cond-false, le-leb, lt-leb}
+use Rattle.std.proofs.lemmas.Option.{none-some}
 use Rattle.bus.specs.Rules.{within}
 use Rattle.frames.specs.Least.{Least, least_solution, delay_after, Exact}
 use Rattle.frames.specs.First.{Solved, solved, unsolved, least-to}
@@ -41,11 +42,11 @@ module _ (f : ℕ → ℕ) (before frame due : ℕ) where
   exact-of (delay w l h e) = record {
     given = λ d r. let s : before + w + frame ≡ d = cc in (w, l, s, omega arith);
     gives = λ v m k. let s : w ≡ v = omega (arith, l.least v m.fixed, m.least w l.fixed) in e ∙ ap (λ z. Some (before + z + frame)) s;
-    over = λ r. let z : ◌≡◌ {A = ℕ} 0 1 = cc in absurd (omega arith);
+    over = λ r. absurd (none-some _ (sym r ∙ e));
     passed = λ k. absurd (omega (arith, k w l.fixed));
   }
   exact-of (over n e) = record {
-    given = λ d r. let z : ◌≡◌ {A = ℕ} 0 1 = cc in absurd (omega arith);
+    given = λ d r. absurd (none-some d (sym e ∙ r));
     gives = λ v m k. absurd (omega (arith, n v m.fixed));
     over = λ r. n;
     passed = λ k. e;

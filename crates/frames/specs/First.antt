@@ -1,39 +1,30 @@
 -- The first number below a limit that passes a test, and the least solution of an equation that it gives.
-use Rattle.std.specs.Prelude.{◌≡◌, ℕ, zero, suc, ◌<◌, ◌≤◌, Bool, true, false, cond, ◌⊎◌, Some, None, ◌==◌}
+use Rattle.std.specs.Prelude.{◌≡◌, ℕ, zero, suc, ◌<◌, ◌≤◌, Bool, true, false, ◌⊎◌, Some, None, ◌==◌}
 use Rattle.std.proofs.Math.Path.{refl, ap}
 use Rattle.std.proofs.Common.{sym, ◌∙◌, inl, inr}
 use Rattle.std.proofs.Math.Logic.{⊎_elim}
 use native.Mathlib.Omega.{arith}
+use borrow.Author.Count.{below_none, below_more}
 use Rattle.std.proofs.lemmas.Bool.{cases_Bool, cases_lt, eqb-true, eq-eqb, both_ways}
-use Rattle.frames.specs.Least.{Least, first_below, or_else, least_solution}
+use Rattle.frames.specs.Least.{Least, first_below, least_solution}
 
 module _ (p : ℕ → Bool) where
   -- none passes
   abbrev Fails : ℕ → Type 0
   Fails n = (v : ℕ) → v < n → p v ≡ false
 
-  fails_more : (n : ℕ) → Fails n → p n ≡ false → Fails (suc n)
-  fails_more n h e v l =
-      ⊎_elim (λ (g : v < n). h v g) (λ (g : n ≤ v). let s : v ≡ n = omega arith in ap p s ∙ e) (cases_lt v n)
-
   pub first-none : (n : ℕ) → Fails n → first_below p n ≡ None
   unfolding first_below
   first-none zero h = refl
-  first-none (suc n) h =
-      ap (λ o. or_else o (cond (p n) (Some n) None)) (first-none n (λ v l. h v (omega arith)))
-      ∙ ap (λ t. cond t (Some n) None) (h n (omega arith))
+  first-none (suc n) h = rw (first-none n (λ v l. h v (omega arith)), h n (omega arith)) refl
 
   pub first_some : (n w : ℕ) → w < n → p w ≡ true → Fails w → first_below p n ≡ Some w
   unfolding first_below
   first_some zero w l e h = absurd (omega arith)
   first_some (suc n) w l e h =
       ⊎_elim
-      (λ (g : w < n). ap (λ o. or_else o (cond (p n) (Some n) None)) (first_some n w g e h))
-      (λ (g : n ≤ w).
-      let s : w ≡ n = omega arith in
-      ap (λ o. or_else o (cond (p n) (Some n) None)) (first-none n (λ v k. h v (omega arith)))
-      ∙ ap (λ t. cond t (Some n) None) (sym (ap p s) ∙ e)
-      ∙ ap (λ z. Some z) (sym s))
+      (λ (g : w < n). rw (first_some n w g e h) refl)
+      (λ (g : n ≤ w). let s : n ≡ w = omega arith in rw (s, first-none w h, e) refl)
       (cases_lt w n)
 
   -- the first that passes, or that none does
@@ -44,10 +35,10 @@ module _ (p : ℕ → Bool) where
   further : (n : ℕ) → Search n → (p n ≡ true) ⊎ (p n ≡ false) → Search (suc n)
   further n (hit w l e h) t = hit w (omega arith) e h
   further n (miss h) (inl e) = hit n (omega arith) e h
-  further n (miss h) (inr e) = miss (fails_more n h e)
+  further n (miss h) (inr e) = miss (λ v l. below_more (λ k. p k ≡ false) n h e v (omega arith))
 
   pub searched : (n : ℕ) → Search n
-  searched zero = miss (λ v l. absurd (omega arith))
+  searched zero = miss (below_none (λ k. p k ≡ false))
   searched (suc n) = further n (searched n) (cases_Bool (p n))
 
 module _ (f : ℕ → ℕ) where

@@ -26,22 +26,20 @@ module _ (f : ℕ → ℕ) (rises : Rises f) where
   pub solution_below : (v : ℕ) → f v ≤ v → Below v
   solution_below v h = down v v (omega arith) h
 
--- The right side does not fall, and w is at or below it, and at or below every solution.
+-- w is at or below the right side, and at or below every solution
 pub record Climbs (f : ℕ → ℕ) (w : ℕ) : Type 0 where
-  pub rises : Rises f
   pub under : w ≤ f w
   pub before : (v : ℕ) → f v ≡ v → w ≤ v
 
-pub climbs-from_zero : (f : ℕ → ℕ) → Rises f → Climbs f 0
-climbs-from_zero f rises = record { rises = rises; under = omega arith; before = λ v s. omega arith }
+pub climbs-from_zero : (f : ℕ → ℕ) → Climbs f 0
+climbs-from_zero f = record { under = omega arith; before = λ v s. omega arith }
 
 -- One turn: the right side, as far as a number goes that is past w.
-module _ {f : ℕ → ℕ} {w : ℕ} (climbs : Climbs f w) (next most : ℕ) (room : w < most) (turn : next ≡ min (f w) most) where
+module _ (f : ℕ → ℕ) (rises : Rises f) (w next most : ℕ) (climbs : Climbs f w) (room : w < most) (turn : next ≡ min (f w) most) where
   pub climbs-on : Climbs f next
   climbs-on = record {
-    rises = climbs.rises;
-    under = omega (arith, climbs.under, climbs.rises w next (omega (arith, climbs.under)));
-    before = λ v s. omega (arith, climbs.rises w v (climbs.before v s));
+    under = omega (arith, climbs.under, rises w next (omega (arith, climbs.under)));
+    before = λ v s. omega (arith, rises w v (climbs.before v s));
   }
 
   pub climbs-past : (next ≢ w) → w < next

@@ -11,7 +11,7 @@ use bus::refusal::Refusal;
 use std::alloc::AllocError;
 use std::marker::PhantomData;
 
-// A length of identifiers.
+// A length of identifiers. A trait and no const parameter, since the bounds on the base are laws of it: so `new` asks nothing of callers.
 pub trait Identifier {
     // the bits of an empty frame
     const BASE: u64;
@@ -27,12 +27,17 @@ pub trait Identifier {
 #[derive_where(PartialEq, Eq, Debug)]
 pub struct Classic<I> {
     pub bit: u64,
-    of: PhantomData<I>,
+    // it holds nothing, and only says which length
+    pub of: PhantomData<I>,
     ghost range: { In bit_times bit },
 }
 
 // By hand: no derive makes a Clone for a struct with a type parameter and a ghost field.
 impl<I> Clone for Classic<I> {
+    ghost is_clone = { λ x y. y ≡ x };
+
+    ghost is_infallible = { λ _. Unit {0} };
+
     fn clone(&self) -> Result<Classic<I>, AllocError>
         ensures { result ≡ Ok self.now }
     {

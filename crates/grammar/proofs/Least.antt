@@ -1,6 +1,8 @@
 -- The fault that is reported of a sheet is the least.
-use Rattle.std.proofs.Common.{◌≡◌, ℕ, zero, suc, ◌+◌, ◌-◌, ◌<◌, ◌≤◌, Bool, true, false, cond, List, [], ◌∷◌, length, Some, None, Ok, Err, MatchBool, Option, Result, sym, refl, ap, ◌∙◌, subst, inl, inr, arith}
-use Rattle.std.proofs.lemmas.Bool.{cases_order, cases_lt, lt-leb, ne_eqb}
+use Rattle.std.proofs.Common.{◌≡◌, ℕ, zero, suc, ◌+◌, ◌-◌, ◌<◌, ◌≤◌, Bool, true, false, cond, List, [], ◌∷◌, length, Some, None, Ok, MatchBool, Option, sym, refl, ap, ◌∙◌, subst, inl, inr, arith}
+use Rattle.std.proofs.lemmas.Bool.{cases_eq, cases_order, cases_lt, lt-leb}
+use Rattle.std.proofs.lemmas.Bool.Decides.{nat_tests}
+use Rattle.std.proofs.lemmas.Option.{none-some}
 use Rattle.grammar.specs.Content.{Content, content_of, last_wanted}
 use Rattle.grammar.specs.Faults.{Finds, tests_at, too_long, length_fault, FaultAt, reported, Placed, first_bad, line_count, sheet_fault, meaning}
 use Rattle.grammar.specs.Laws.{NotBefore, ReportedIsLeast, FaultlessIsRead, ReadIsFaultless}
@@ -23,14 +25,10 @@ record First (ls : List TextLine) (i : ℕ) (p : Placed) : Type 0 where
 -- line i and the later ones
 from_here : (ls : List TextLine) (i : ℕ) → Good ls i → (P : ℕ → Type 0) → ((j : ℕ) → suc i ≤ j → P j → Good ls j) →
     (j : ℕ) → i ≤ j → P j → Good ls j
-from_here ls i here P later j low h =
-    elim (cases_lt i j) [
-      | inl lt ↦ later j lt h
-      | inr ge ↦ let e : i ≡ j = omega arith in subst (λ (x : ℕ). Good ls x) e here
-    ]
+from_here ls i here P later j low h = grind (arith, cases_eq i j, later j)
 
 first-bad : (ls : List TextLine) (n i : ℕ) (p : Placed) → first_bad ls i n ≡ Some p → First ls i p
-first-bad ls zero i p h = let z : ◌≡◌ {A = ℕ} 0 1 = cc in absurd (omega arith)
+first-bad ls zero i p h = absurd (none-some p h)
 first-bad ls (suc n) i p h = by (reported (tests_at ls i)) refl (first-bad ls n (suc i) p)
   where
     by : (o : Option Fault) → reported (tests_at ls i) ≡ o → (first_bad ls (suc i) n ≡ Some p → First ls (suc i) p) → First ls i p
@@ -48,20 +46,12 @@ first-bad ls (suc n) i p h = by (reported (tests_at ls i)) refl (first-bad ls n 
 
 all-good : (ls : List TextLine) (n i : ℕ) → first_bad ls i n ≡ None → (j : ℕ) → i ≤ j → j < i + n → Good ls j
 all-good ls zero i h j low high = absurd (omega arith)
-all-good ls (suc n) i h j low high = by (reported (tests_at ls i)) refl (all-good ls n (suc i))
-  where
-    by : (o : Option Fault) → reported (tests_at ls i) ≡ o →
-        (first_bad ls (suc i) n ≡ None → (k : ℕ) → suc i ≤ k → k < suc i + n → Good ls k) → Good ls j
-    by None e rest = from_here ls i e (λ k. k < suc i + n) (rest (rw e at h)) j low (omega arith)
-    by (Some f) e rest =
-        let g : ◌≡◌ {A = Option Placed} (Some (record { line = i; fault = f })) None = rw e at h in
-        let z : ◌≡◌ {A = ℕ} 0 1 = cc in
-        absurd (omega arith)
+all-good ls (suc n) i h j low high = grind (arith, cases_eq i j, all-good ls n (suc i))
 
 -- ---------------------------------------------------------------- past the last line
 no_line : (ls : List TextLine) (i : ℕ) → length ls < i → line_at ls i ≡ None
 no_line [] i h = refl
-no_line (l ∷ ls) i h = rw (ne_eqb i 1 (omega arith)) (no_line ls (i - 1) (omega arith))
+no_line (l ∷ ls) i h = grind (arith, nat_tests, no_line ls (i - 1))
 
 no_tests : (ls : List TextLine) (i : ℕ) → line_count ls < i → tests_at ls i ≡ []
 unfolding tests_at
@@ -98,7 +88,7 @@ least-in false ls p h =
     ((first.from, reported-found (tests_at ls p.line) p.fault first.fault), λ i f m. not_before ls p first i f m.0 m.1)
 
 none_in : (long : Bool) (ls : List TextLine) → fault_in long ls ≡ None → (i : ℕ) (f : Fault) → FaultIn long ls i f → ⊥
-none_in true ls h i f m = let z : ◌≡◌ {A = ℕ} 0 1 = cc in omega arith
+none_in true ls h i f m = grind arith
 none_in false ls h i f m =
     elim (cases_lt (line_count ls) i) [
       | inl past ↦ subst (λ (ts : List Test). Finds ts f) (no_tests ls i past) m.1
@@ -125,7 +115,4 @@ read_is_faultless bytes c h = by (sheet_fault bytes) refl
   where
     by : (o : Option Placed) → sheet_fault bytes ≡ o → (i : ℕ) (f : Fault) → FaultAt bytes i f → ⊥
     by None e = none_of bytes e
-    by (Some p) e =
-        let g : ◌≡◌ {A = Result Content Placed} (Err p) (Ok c) = rw e at h in
-        let z : ◌≡◌ {A = ℕ} 0 1 = cc in
-        absurd (omega arith)
+    by (Some p) e = grind arith

@@ -1,5 +1,6 @@
 -- The tests of every line stand in order.
 use Rattle.std.proofs.Common.{◌≡◌, ℕ, ◌-◌, Bool, true, false, cond, eqb, ltb, leb, List, [], ◌∷◌, ◌++◌, length, Some, None, codes, Option, refl}
+use Rattle.std.proofs.lemmas.Bool.{cond_both}
 use Rattle.bus.specs.Range.{inside}
 use Rattle.bus.specs.declared.entry.Entry.{Entry}
 use Rattle.bus.specs.declared.refusal.Refusal.TheVariants.{Form, Count, Range}
@@ -52,22 +53,13 @@ ordered-message count earlier l =
     let ws = words l.text in
     ordered-line (message_forms ws) (entry_values count earlier (entry_in ws)) refl refl refl l
 
--- one of two lists, each in order
-either : (b : Bool) (ts us : List Test) → Ordered ts → Ordered us → Ordered (cond b ts us)
-either true ts us p q = p
-either false ts us p q = q
-
 ordered_of : (ls : List TextLine) (i : ℕ) (l : TextLine) → Ordered (tests_of ls i l)
 ordered_of ls i l =
-    let message = message_tests (bus_total ls) (earlier_than ls i) l in
-    let bus = cond (ltb i (first_message ls)) (bus_tests (i - 3) l) message in
-    let gateway = cond (eqb i 3) (gateway_tests l) bus in
-    let messages = cond (eqb i 2) (messages_tests l) gateway in
-    either (eqb i 1) (buses_tests l) messages (ordered-buses l)
-    (either (eqb i 2) (messages_tests l) gateway (ordered-messages l)
-    (either (eqb i 3) (gateway_tests l) bus (ordered-gateway l)
-    (either (ltb i (first_message ls)) (bus_tests (i - 3) l) message (ordered-bus (i - 3) l)
-    (ordered-message (bus_total ls) (earlier_than ls i) l))))
+    cond_both (eqb i 1) _ _ Ordered (λ _. ordered-buses l)
+    (λ _. cond_both (eqb i 2) _ _ Ordered (λ _. ordered-messages l)
+    (λ _. cond_both (eqb i 3) _ _ Ordered (λ _. ordered-gateway l)
+    (λ _. cond_both (ltb i (first_message ls)) _ _ Ordered (λ _. ordered-bus (i - 3) l)
+    (λ _. ordered-message (bus_total ls) (earlier_than ls i) l))))
 
 ordered-wanted : (ls : List TextLine) (i : ℕ) (o : Option TextLine) → Ordered (wanted_tests ls i o)
 ordered-wanted ls i None = refl
@@ -81,4 +73,4 @@ pub ordered-tests : (ls : List TextLine) (i : ℕ) → ordered (tests_at ls i) �
 unfolding tests_at
 ordered-tests ls i =
     let o = line_at ls i in
-    either (leb i (last_wanted ls)) (wanted_tests ls i o) (unwanted_tests o) (ordered-wanted ls i o) (ordered-unwanted o)
+    cond_both (leb i (last_wanted ls)) _ _ Ordered (λ _. ordered-wanted ls i o) (λ _. ordered-unwanted o)

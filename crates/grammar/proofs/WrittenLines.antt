@@ -1,13 +1,15 @@
 -- The lines of a written sheet: each is read back, has no fault, and is short.
-use Rattle.std.proofs.Common.{◌≡◌, ℕ, suc, ◌+◌, ◌^◌, ◌≤◌, Bool, true, cond, eqb, leb, List, [], ◌∷◌, length, is_some, Some, codes, decimal, sym, refl, ap, ◌∙◌, subst, arith, pow_mono}
-use Rattle.std.specs.List.{AllByRecursion}
+use Rattle.std.proofs.Common.{◌≡◌, ℕ, suc, ◌+◌, ◌^◌, ◌≤◌, Bool, true, cond, eqb, List, [], ◌∷◌, length, Some, codes, decimal, sym, refl, ap, ◌∙◌, subst, arith, pow_mono}
+use Rattle.std.specs.List.{list_all, AllByRecursion}
 use Rattle.std.proofs.lemmas.List.{length-append}
-use Rattle.std.proofs.lemmas.Bool.{and_parts, and_from, eqb-true, leb-true, ltb-true, eq-eqb}
+use Rattle.std.proofs.lemmas.List.Elements.{recursion_from_All}
+use Rattle.std.proofs.lemmas.List.Sums.{AllPass-from_list_all}
+use Rattle.std.proofs.lemmas.Bool.Decides.{nat_tests}
+use Rattle.std.proofs.lemmas.Bool.{and_parts, and_from, eqb-true, ltb-true}
 use Rattle.bus.specs.Range.{Span, inside, numbers, buses, payloads, periods, deadlines, jitters, bit_times, bridge_times}
 use Rattle.bus.specs.declared.entry.Entry.{Entry}
 use Rattle.bus.specs.declared.refusal.Refusal.{Refusal}
 use Rattle.frames.specs.Fd.{data_times}
-use Rattle.search.specs.Lists.{every}
 use Rattle.grammar.specs.Lines.{Test, must, all_pass, count_forms, count_in, bus_forms, bus_line_in, bus_values, message_forms, entry_in, entry_values, line_tests, bus_tests, message_tests}
 use Rattle.grammar.specs.Numerals.{number_in}
 use Rattle.grammar.specs.Text.{TextLine, lf, space, hyphen, words}
@@ -24,7 +26,7 @@ use Rattle.grammar.proofs.WrittenWords.{Short, NumberWord, number_word, KindWord
 -- ---------------------------------------------------------------- any line
 -- the tests of a line are those of the words that were put into it
 module _ (forms : List (List ℕ) → List Bool) (values : List (List ℕ) → List Test) (w : List ℕ) (ws : List (List ℕ)) where
-  pub line-passes : clear (w ∷ ws) ≡ true → length (w ∷ ws) ≡ length (forms (w ∷ ws)) → every (λ b. b) (forms (w ∷ ws)) ≡ true →
+  line-passes : clear (w ∷ ws) ≡ true → length (w ∷ ws) ≡ length (forms (w ∷ ws)) → list_all (λ b. b) (forms (w ∷ ws)) ≡ true →
       Faultless (values (w ∷ ws)) →
       let vs = words (between space (w ∷ ws)) in
       Faultless (line_tests (forms vs) (values vs) (line_of (w ∷ ws)))
@@ -47,15 +49,10 @@ line-long w ws =
     omega (arith, length-append (between space (w ∷ ws)) (lf ∷ []), length-append w (behind_first space ws), behind-long ws)
 
 all-passed : (ts : List Test) → all_pass ts ≡ true → AllByRecursion (λ (t : Test). t.passes ≡ true) ts
-all-passed [] h = tt
-all-passed (t ∷ ts) h =
-    let both = and_parts t.passes (all_pass ts) h in
-    (both.0, all-passed ts both.1)
+all-passed ts h = recursion_from_All (λ (t : Test). t.passes ≡ true) ts (AllPass-from_list_all (λ (t : Test). t.passes) ts h)
 
 pub inside-parts : (s : Span) (x : ℕ) → inside s x ≡ true → (s.low ≤ x) × (x ≤ s.high)
-inside-parts s x h =
-    let both = and_parts (leb s.low x) (leb x s.high) h in
-    (leb-true s.low x both.0, leb-true x s.high both.1)
+inside-parts s x h = grind (arith, nat_tests)
 
 -- ---------------------------------------------------------------- the contents
 abbrev pub count_words : List ℕ → ℕ → List (List ℕ)
@@ -68,7 +65,7 @@ module _ (n : ℕ) (short : Short n) where
   pub count_clear : (keyword : List ℕ) → above space keyword ≡ true → clear (count_words keyword n) ≡ true
   count_clear keyword far = and_from _ _ far (and_from _ _ (number_word n short).clear refl)
 
-  count_kept : (keyword : List ℕ) → same keyword keyword ≡ true → every (λ b. b) (count_forms keyword (count_words keyword n)) ≡ true
+  count_kept : (keyword : List ℕ) → same keyword keyword ≡ true → list_all (λ b. b) (count_forms keyword (count_words keyword n)) ≡ true
   count_kept keyword itself = and_from _ _ itself (and_from _ _ (number_word n short).is refl)
 
   pub count_long : (keyword : List ℕ) → length keyword ≤ 8 → length (line_text (count_words keyword n)) ≤ 21
@@ -121,20 +118,11 @@ module _ (k : ℕ) (b : BusLine) (number kind bit fast bridge : List ℕ) (is : 
   bus_back_by : bus_line_in (codes "bus" ∷ number ∷ kind ∷ bit ∷ fast ∷ bridge ∷ []) ≡ b
   bus_back_by = rw (is.kinded.back, is.timed.back, is.faster.back, is.bridged.back)
 
-  bus_kept_by : every (λ b. b) (bus_forms k (codes "bus" ∷ number ∷ kind ∷ bit ∷ fast ∷ bridge ∷ [])) ≡ true
-  bus_kept_by =
-      and_from _ _ refl
-      (and_from _ _ (and_from _ _ is.numbered.is (eq-eqb _ _ is.numbered.back))
-      (and_from _ _ (ap is_some is.kinded.back)
-      (and_from _ _ is.timed.is
-      (and_from _ _ (ap (λ o. is_fast o fast) is.kinded.back ∙ is.faster.is)
-      (and_from _ _ is.bridged.is refl)))))
+  bus_kept_by : list_all (λ b. b) (bus_forms k (codes "bus" ∷ number ∷ kind ∷ bit ∷ fast ∷ bridge ∷ [])) ≡ true
+  bus_kept_by = grind (arith, nat_tests, is.numbered.is, is.numbered.back, is.kinded.back, is.faster.is)
 
   bus_clear_by : clear (codes "bus" ∷ number ∷ kind ∷ bit ∷ fast ∷ bridge ∷ []) ≡ true
-  bus_clear_by =
-      and_from _ _ is.numbered.clear
-      (and_from _ _ is.kinded.clear
-      (and_from _ _ is.timed.clear (and_from _ _ is.faster.clear (and_from _ _ is.bridged.clear refl))))
+  bus_clear_by = grind arith
 
   bus_long_by : length (line_text (codes "bus" ∷ number ∷ kind ∷ bit ∷ fast ∷ bridge ∷ [])) ≤ 58
   bus_long_by = omega (arith, line-long (codes "bus") (number ∷ kind ∷ bit ∷ fast ∷ bridge ∷ []))
@@ -145,9 +133,9 @@ fast_short Can11 bit fast h k few = omega (arith, eqb-true fast 0 k)
 fast_short Can29 bit fast h k few = omega (arith, eqb-true fast 0 k)
 fast_short Fd11 bit fast h k few = omega (arith, inside-parts (data_times bit) fast h)
 
-bus_words_lem : (k : ℕ) (b : BusLine) → Short k → lawful_bus b ≡ true →
+bus_words-lawful : (k : ℕ) (b : BusLine) → Short k → lawful_bus b ≡ true →
     BusWords k b (decimal k) (kind_text b.kind) (decimal b.bit) (fast_text b.kind b.fast) (decimal b.bridge)
-bus_words_lem k b short h =
+bus_words-lawful k b short h =
     let parts = and_parts (all_pass (bus_values b)) (cond (is_fd b.kind) true (eqb b.fast 0)) h in
     let p = all-passed (bus_values b) parts.0 in
     let bit = inside-parts bit_times b.bit p.0 in
@@ -166,18 +154,18 @@ bus_line k b = line_of (bus_words k b)
 
 module _ (k : ℕ) (b : BusLine) (short : Short k) (lawful : lawful_bus b ≡ true) where
   pub bus_back : bus_line_in (bus_words k b) ≡ b
-  bus_back = bus_back_by _ _ _ _ _ _ _ (bus_words_lem k b short lawful)
+  bus_back = bus_back_by _ _ _ _ _ _ _ (bus_words-lawful k b short lawful)
 
   pub bus_clear : clear (bus_words k b) ≡ true
-  bus_clear = bus_clear_by _ _ _ _ _ _ _ (bus_words_lem k b short lawful)
+  bus_clear = bus_clear_by _ _ _ _ _ _ _ (bus_words-lawful k b short lawful)
 
   pub bus_long : length (bus_text k b) ≤ 58
-  bus_long = bus_long_by _ _ _ _ _ _ _ (bus_words_lem k b short lawful)
+  bus_long = bus_long_by _ _ _ _ _ _ _ (bus_words-lawful k b short lawful)
 
   pub bus_passes : Faultless (bus_tests k (bus_line k b))
   bus_passes =
       line-passes (bus_forms k) (λ ws. bus_values (bus_line_in ws)) (codes "bus") (bus_rest k b) bus_clear refl
-      (bus_kept_by _ _ _ _ _ _ _ (bus_words_lem k b short lawful))
+      (bus_kept_by _ _ _ _ _ _ _ (bus_words-lawful k b short lawful))
       (subst (λ (c : BusLine). Faultless (bus_values c)) (sym bus_back)
       (faultless (bus_values b) (and_parts (all_pass (bus_values b)) _ lawful).0))
 
@@ -206,29 +194,19 @@ module _ (e : Entry) (number source to payload period deadline jitter : List ℕ
   entry_back_by =
       rw (is.numbered.back, is.sourced.back, is.sent.back, is.paid.back, is.repeated.back, is.due.back, is.late.back)
 
-  entry_kept_by : every (λ b. b) (message_forms (codes "msg" ∷ number ∷ source ∷ to ∷ payload ∷ period ∷ deadline ∷ jitter ∷ [])) ≡ true
-  entry_kept_by =
-      and_from _ _ is.numbered.is
-      (and_from _ _ is.sourced.is
-      (and_from _ _ is.sent.is
-      (and_from _ _ is.paid.is
-      (and_from _ _ is.repeated.is (and_from _ _ is.due.is (and_from _ _ is.late.is refl))))))
+  entry_kept_by : list_all (λ b. b) (message_forms (codes "msg" ∷ number ∷ source ∷ to ∷ payload ∷ period ∷ deadline ∷ jitter ∷ [])) ≡ true
+  entry_kept_by = grind arith
 
   entry_clear_by : clear (codes "msg" ∷ number ∷ source ∷ to ∷ payload ∷ period ∷ deadline ∷ jitter ∷ []) ≡ true
-  entry_clear_by =
-      and_from _ _ is.numbered.clear
-      (and_from _ _ is.sourced.clear
-      (and_from _ _ is.sent.clear
-      (and_from _ _ is.paid.clear
-      (and_from _ _ is.repeated.clear (and_from _ _ is.due.clear (and_from _ _ is.late.clear refl))))))
+  entry_clear_by = grind arith
 
   entry_long_by : length (line_text (codes "msg" ∷ number ∷ source ∷ to ∷ payload ∷ period ∷ deadline ∷ jitter ∷ [])) ≤ 92
   entry_long_by = omega (arith, line-long (codes "msg") (number ∷ source ∷ to ∷ payload ∷ period ∷ deadline ∷ jitter ∷ []))
 
-entry_words_lem : (count : ℕ) (earlier : List Entry) (e : Entry) → count ≤ 8 → all_pass (entry_values count earlier e) ≡ true →
+entry_words-lawful : (count : ℕ) (earlier : List Entry) (e : Entry) → count ≤ 8 → all_pass (entry_values count earlier e) ≡ true →
     EntryWords e (decimal e.number) (decimal e.source) (to_text e.destinations) (decimal e.payload) (decimal e.period)
     (decimal e.deadline) (decimal e.jitter)
-entry_words_lem count earlier e few h =
+entry_words-lawful count earlier e few h =
     let p = all-passed (entry_values count earlier e) h in
     let number = inside-parts numbers e.number p.0 in
     let source = inside-parts buses e.source p.1.0 in
@@ -253,16 +231,16 @@ entry_line e = line_of (entry_words e)
 
 module _ (count : ℕ) (earlier : List Entry) (e : Entry) (few : count ≤ 8) (lawful : all_pass (entry_values count earlier e) ≡ true) where
   pub entry_back : entry_in (entry_words e) ≡ e
-  entry_back = entry_back_by _ _ _ _ _ _ _ _ (entry_words_lem count earlier e few lawful)
+  entry_back = entry_back_by _ _ _ _ _ _ _ _ (entry_words-lawful count earlier e few lawful)
 
   pub entry_clear : clear (entry_words e) ≡ true
-  entry_clear = entry_clear_by _ _ _ _ _ _ _ _ (entry_words_lem count earlier e few lawful)
+  entry_clear = entry_clear_by _ _ _ _ _ _ _ _ (entry_words-lawful count earlier e few lawful)
 
   pub entry_long : length (entry_text e) ≤ 92
-  entry_long = entry_long_by _ _ _ _ _ _ _ _ (entry_words_lem count earlier e few lawful)
+  entry_long = entry_long_by _ _ _ _ _ _ _ _ (entry_words-lawful count earlier e few lawful)
 
   pub entry_passes : Faultless (message_tests count earlier (entry_line e))
   entry_passes =
       line-passes message_forms (λ ws. entry_values count earlier (entry_in ws)) (codes "msg") (entry_rest e) entry_clear refl
-      (entry_kept_by _ _ _ _ _ _ _ _ (entry_words_lem count earlier e few lawful))
+      (entry_kept_by _ _ _ _ _ _ _ _ (entry_words-lawful count earlier e few lawful))
       (subst (λ (d : Entry). Faultless (entry_values count earlier d)) (sym entry_back) (faultless (entry_values count earlier e) lawful))

@@ -1,12 +1,11 @@
 -- A lawful board, written as a sheet, is read back.
 use Rattle.std.proofs.Common.{◌≡◌, ℕ, suc, ◌+◌, ◌-◌, ◌*◌, ◌≤◌, true, false, List, [], ◌∷◌, ◌++◌, map, length, drop, Some, None, codes, decimal, sym, refl, ap, ◌∙◌, ap₂, arith}
-use Rattle.std.specs.List.{flat_map}
+use Rattle.std.specs.List.{list_all, flat_map}
 use Rattle.std.proofs.lemmas.List.{append_assoc, length-append, length-map, drop-drop, drop_at}
 use Rattle.std.proofs.lemmas.Bool.{and_parts, cond-false, le-ltb}
 use Rattle.bus.specs.Range.{inside}
 use Rattle.bus.specs.declared.entry.Entry.{Entry}
 use Rattle.bus.specs.declared.refusal.Refusal.TheVariants.{Count, Range}
-use Rattle.search.specs.Lists.{every}
 use Rattle.boards.specs.Nets.{numbers_from}
 use Rattle.grammar.specs.Content.{Content, words_of, bus_total, message_total, gateway_time, first_message, entry_at, content_of}
 use Rattle.grammar.specs.Faults.{tests_of, tests_at, reported, too_long, line_count, first_bad, sheet_limit, sheet_fault, or_content}
@@ -38,19 +37,19 @@ use Rattle.grammar.proofs.WrittenWalk.{bus_lines, Fine, buses-read, entries_read
 use Rattle.grammar.proofs.WrittenWords.{Short}
 
 -- ---------------------------------------------------------------- buses and messages
-buses-lines : (k : ℕ) (bs : List BusLine) (rest : List ℕ) → every lawful_bus bs ≡ true → k + length bs ≤ 9 →
+buses-lines : (k : ℕ) (bs : List BusLine) (rest : List ℕ) → list_all lawful_bus bs ≡ true → k + length bs ≤ 9 →
     lines_of (bus_texts k bs ++ rest) ≡ bus_lines k bs ++ lines_of rest
 buses-lines k [] rest h few = refl
 buses-lines k (b ∷ bs) rest h few =
-    let both = and_parts (lawful_bus b) (every lawful_bus bs) h in
+    let both = and_parts (lawful_bus b) (list_all lawful_bus bs) h in
     ap lines_of (append_assoc (bus_text k b) (bus_texts (suc k) bs) rest)
     ∙ lines-first (bus_words k b) (bus_texts (suc k) bs ++ rest) (bus_clear k b (omega arith) both.0)
     ∙ ap (λ ls. bus_line k b ∷ ls) (buses-lines (suc k) bs rest both.1 (omega arith))
 
-buses-long : (k : ℕ) (bs : List BusLine) → every lawful_bus bs ≡ true → k + length bs ≤ 9 → length (bus_texts k bs) ≤ 58 * length bs
+buses-long : (k : ℕ) (bs : List BusLine) → list_all lawful_bus bs ≡ true → k + length bs ≤ 9 → length (bus_texts k bs) ≤ 58 * length bs
 buses-long k [] h few = omega arith
 buses-long k (b ∷ bs) h few =
-    let both = and_parts (lawful_bus b) (every lawful_bus bs) h in
+    let both = and_parts (lawful_bus b) (list_all lawful_bus bs) h in
     let rest = buses-long (suc k) bs both.1 (omega arith) in
     omega (arith, length-append (bus_text k b) (bus_texts (suc k) bs), bus_long k b (omega arith) both.0)
 
@@ -78,7 +77,7 @@ record Parts (c : Content) : Type 0 where
   counted : inside bus_totals (length c.buses) ≡ true
   sent : inside message_totals (length c.entries) ≡ true
   timed : inside gateway_times c.gateway ≡ true
-  buses : every lawful_bus c.buses ≡ true
+  buses : list_all lawful_bus c.buses ≡ true
   entries : lawful_entries (length c.buses) [] c.entries ≡ true
   few : length c.buses ≤ 8
   many : length c.entries ≤ 64
@@ -86,19 +85,15 @@ record Parts (c : Content) : Type 0 where
 
 parts-of : (c : Content) → lawful c ≡ true → Parts c
 parts-of c h =
-    let p = and_parts (inside bus_totals (length c.buses)) _ h in
-    let q = and_parts (inside message_totals (length c.entries)) _ p.1 in
-    let r = and_parts (inside gateway_times c.gateway) _ q.1 in
-    let s = and_parts (every lawful_bus c.buses) _ r.1 in
     record {
-      counted = p.0;
-      sent = q.0;
-      timed = r.0;
-      buses = s.0;
-      entries = s.1;
-      few = (inside-parts bus_totals (length c.buses) p.0).1;
-      many = (inside-parts message_totals (length c.entries) q.0).1;
-      soon = omega (arith, (inside-parts gateway_times c.gateway r.0).1);
+      counted = grind arith;
+      sent = grind arith;
+      timed = grind arith;
+      buses = grind arith;
+      entries = grind arith;
+      few = (inside-parts bus_totals (length c.buses) (grind arith)).1;
+      many = (inside-parts message_totals (length c.entries) (grind arith)).1;
+      soon = omega (arith, (inside-parts gateway_times c.gateway (grind arith)).1);
     }
 
 -- ---------------------------------------------------------------- the lines of the sheet
@@ -124,9 +119,9 @@ module _ (c : Content) (is : Parts c) where
   many_short : Short (length c.entries)
   many_short = omega (arith, is.many)
 
-  sheet_lines_lem : lines_of (sheet_text c) ≡ sheet_lines c
+  lines_of-sheet : lines_of (sheet_text c) ≡ sheet_lines c
   unfolding sheet_text
-  sheet_lines_lem =
+  lines_of-sheet =
       let messages = flat_map entry_text c.entries in
       let behind = bus_texts 1 c.buses ++ messages in
       let third = count_text (codes "gateway") c.gateway ++ behind in
@@ -192,18 +187,18 @@ module _ (c : Content) (is : Parts c) (ls : List TextLine) (shape : ls ≡ sheet
       count_in (words_of ls i) ≡ n
   number_at i n keyword short far here = ap count_in (words-at ls i keyword (decimal n ∷ []) far here) ∙ count_back n short keyword
 
-  bus_total_lem : bus_total ls ≡ length c.buses
-  bus_total_lem =
+  bus_total-is : bus_total ls ≡ length c.buses
+  bus_total-is =
       number_at 1 (length c.buses) (codes "buses") (few_short c is)
       (count_clear (length c.buses) (few_short c is) (codes "buses") refl) at_first
 
-  message_total_lem : message_total ls ≡ length c.entries
-  message_total_lem =
+  message_total-is : message_total ls ≡ length c.entries
+  message_total-is =
       number_at 2 (length c.entries) (codes "messages") (many_short c is)
       (count_clear (length c.entries) (many_short c is) (codes "messages") refl) at_second
 
-  gateway_time_lem : gateway_time ls ≡ c.gateway
-  gateway_time_lem =
+  gateway_time-is : gateway_time ls ≡ c.gateway
+  gateway_time-is =
       number_at 3 c.gateway (codes "gateway") is.soon (count_clear c.gateway is.soon (codes "gateway") refl) at-third
 
   behind-buses : drop (3 + length c.buses) ls ≡ map entry_line c.entries
@@ -214,20 +209,20 @@ module _ (c : Content) (is : Parts c) (ls : List TextLine) (shape : ls ≡ sheet
 
   content-back : content_of ls ≡ c
   content-back =
-      let first : first_message ls ≡ suc (3 + length c.buses) = omega (arith, bus_total_lem) in
+      let first : first_message ls ≡ suc (3 + length c.buses) = omega (arith, bus_total-is) in
       content-same (content_of ls) c
-      (ap (λ m. map (λ i. bus_line_in (words_of ls i)) (numbers_from 4 m)) bus_total_lem
+      (ap (λ m. map (λ i. bus_line_in (words_of ls i)) (numbers_from 4 m)) bus_total-is
       ∙ buses-read ls 1 3 c.buses (map entry_line c.entries) is.buses (omega (arith, is.few)) behind-third)
-      gateway_time_lem
-      (ap₂ (λ k m. map (entry_at ls) (numbers_from k m)) first message_total_lem
+      gateway_time-is
+      (ap₂ (λ k m. map (entry_at ls) (numbers_from k m)) first message_total-is
       ∙ entries_read ls (length c.buses) (3 + length c.buses) [] c.entries is.few is.entries behind-buses)
 
   lines-counted : line_count ls ≡ length (sheet_lines c)
   lines-counted =
       omega (
         arith,
-        bus_total_lem,
-        message_total_lem,
+        bus_total-is,
+        message_total-is,
         ap length shape,
         length-append (bus_lines 1 c.buses) (map entry_line c.entries),
         buses-counted 1 c.buses,
@@ -235,12 +230,12 @@ module _ (c : Content) (is : Parts c) (ls : List TextLine) (shape : ls ≡ sheet
       )
 
   wanted : (i : ℕ) (l : TextLine) → i ≤ 3 → line_at ls i ≡ Some l → tests_at ls i ≡ tests_of ls i l
-  wanted i l low here = tests-wanted ls (length c.buses) (length c.entries) bus_total_lem message_total_lem i l (omega arith) here
+  wanted i l low here = tests-wanted ls (length c.buses) (length c.entries) bus_total-is message_total-is i l (omega arith) here
 
   behind-fine : (m : ℕ) → m ≡ 3 + length c.buses → drop m ls ≡ map entry_line c.entries → Fine ls (suc m) (length (map entry_line c.entries))
   behind-fine m up left =
-      let none : suc m - first_message ls ≡ 0 = omega (arith, bus_total_lem) in
-      entries_fine ls (length c.buses) (length c.entries) bus_total_lem message_total_lem m [] c.entries is.few is.entries
+      let none : suc m - first_message ls ≡ 0 = omega (arith, bus_total-is) in
+      entries_fine ls (length c.buses) (length c.entries) bus_total-is message_total-is m [] c.entries is.few is.entries
       (omega arith) (omega arith) (ap (λ d. map (entry_at ls) (numbers_from (first_message ls) d)) none) left
 
   all-fine : Fine ls 1 (length (sheet_lines c))
@@ -254,7 +249,7 @@ module _ (c : Content) (is : Parts c) (ls : List TextLine) (shape : ls ≡ sheet
       (fine-step ls 3 (length (lines_behind c))
       (ap reported (wanted 3 (third_line c) (omega arith) at-third)
       ∙ count_passes c.gateway is.soon (codes "gateway") gateway_times Range Board refl refl is.timed)
-      (buses-fine ls (length c.buses) (length c.entries) bus_total_lem message_total_lem 1 3 c.buses (map entry_line c.entries) is.buses
+      (buses-fine ls (length c.buses) (length c.entries) bus_total-is message_total-is 1 3 c.buses (map entry_line c.entries) is.buses
       is.few refl (omega arith) (omega arith) behind-third behind-fine)))
 
 no_fault : (c : Content) → Parts c → sheet_fault (sheet_text c) ≡ None
@@ -262,10 +257,10 @@ unfolding sheet_fault
 no_fault c is =
     let ls = lines_of (sheet_text c) in
     cond-false (too_long (sheet_text c)) _ _ (sheet_short c is)
-    ∙ ap (first_bad ls 1) (lines-counted c is ls (sheet_lines_lem c is))
-    ∙ all-fine c is ls (sheet_lines_lem c is)
+    ∙ ap (first_bad ls 1) (lines-counted c is ls (lines_of-sheet c is))
+    ∙ all-fine c is ls (lines_of-sheet c is)
 
 pub written_back : WrittenIsReadBack
 written_back c h =
     let is = parts-of c h in
-    ap₂ or_content (no_fault c is) (content-back c is (lines_of (sheet_text c)) (sheet_lines_lem c is))
+    ap₂ or_content (no_fault c is) (content-back c is (lines_of (sheet_text c)) (lines_of-sheet c is))

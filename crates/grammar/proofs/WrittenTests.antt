@@ -1,9 +1,9 @@
 -- A line whose words keep their forms, and whose values pass, has no fault.
-use Rattle.std.proofs.Common.{◌≡◌, ℕ, suc, Bool, true, false, cond, List, [], ◌∷◌, ◌++◌, length, Some, None, Option, refl, ◌∙◌}
-use Rattle.std.proofs.lemmas.Bool.{and_parts, eq-eqb, cond-true}
-use Rattle.search.specs.Lists.{every}
+use Rattle.std.proofs.Common.{◌≡◌, ℕ, suc, Bool, true, false, cond, List, [], ◌∷◌, ◌++◌, length, None, refl, ◌∙◌, arith}
+use Rattle.std.proofs.lemmas.Bool.{eq-eqb, cond-true}
+use Rattle.std.specs.List.{list_all}
 use Rattle.grammar.specs.Faults.{reported}
-use Rattle.grammar.specs.Lines.{Fault, Test, all_pass, word_tests, form_tests, line_tests}
+use Rattle.grammar.specs.Lines.{Test, all_pass, word_tests, form_tests, line_tests}
 use Rattle.grammar.specs.Text.{TextLine, words}
 
 -- none of the tests is failed
@@ -12,31 +12,22 @@ Faultless ts = reported ts ≡ None
 
 pub faultless : (ts : List Test) → all_pass ts ≡ true → Faultless ts
 faultless [] h = refl
-faultless (t ∷ ts) h =
-    let both = and_parts t.passes (all_pass ts) h in
-    cond-true t.passes (reported ts) _ both.0 ∙ faultless ts both.1
-
-passed_on : (b : Bool) (r s : Option Fault) (f : Fault) → (r ≡ None → s ≡ None) → cond b r (Some f) ≡ None → cond b s (Some f) ≡ None
-passed_on true r s f next h = next h
-passed_on false r s f next h = h
+faultless (t ∷ ts) h = grind (arith, faultless ts)
 
 faultless-append : (ts us : List Test) → Faultless ts → Faultless us → Faultless (ts ++ us)
 faultless-append [] us h k = k
-faultless-append (t ∷ ts) us h k =
-    passed_on t.passes (reported ts) (reported (ts ++ us)) t.fault (λ none. faultless-append ts us none k) h
+faultless-append (t ∷ ts) us h k = grind (arith, faultless-append ts us)
 
-faultless-words : (i : ℕ) (forms : List Bool) → every (λ b. b) forms ≡ true → Faultless (word_tests i forms)
+faultless-words : (i : ℕ) (forms : List Bool) → list_all (λ b. b) forms ≡ true → Faultless (word_tests i forms)
 faultless-words i [] h = refl
-faultless-words i (b ∷ forms) h =
-    let both = and_parts b (every (λ b. b) forms) h in
-    cond-true b (reported (word_tests (suc i) forms)) _ both.0 ∙ faultless-words (suc i) forms both.1
+faultless-words i (b ∷ forms) h = grind (arith, faultless-words (suc i) forms)
 
 faultless-if : (b : Bool) (ts : List Test) → Faultless ts → Faultless (cond b ts [])
 faultless-if true ts h = h
 faultless-if false ts h = refl
 
 pub faultless-line : (forms : List Bool) (values : List Test) (l : TextLine) → l.ended ≡ true →
-    length (words l.text) ≡ length forms → every (λ b. b) forms ≡ true → Faultless values → Faultless (line_tests forms values l)
+    length (words l.text) ≡ length forms → list_all (λ b. b) forms ≡ true → Faultless values → Faultless (line_tests forms values l)
 faultless-line forms values l ended counted kept fine =
     faultless-append (form_tests forms l) _
     (cond-true l.ended _ _ ended

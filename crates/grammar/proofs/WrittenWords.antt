@@ -1,11 +1,14 @@
 -- Numbers, kinds and destinations, written as words, are read back.
-use Rattle.std.proofs.Common.{◌≡◌, ℕ, zero, suc, ◌+◌, ◌^◌, ◌<◌, ◌≤◌, Bool, true, false, not, ◌&&◌, eqb, ltb, leb, List, [], ◌∷◌, length, get_or, Some, decimal, refl, ap, ◌∙◌, subst, inl, inr, arith, rules}
+use Rattle.std.proofs.Common.{◌≡◌, ℕ, ◌^◌, ◌<◌, ◌≤◌, Bool, true, false, not, ◌&&◌, eqb, leb, List, [], ◌∷◌, length, get_or, Some, decimal, refl, ap, ◌∙◌, inl, inr, arith, rules}
 use Rattle.std.specs.Str.{all_ascii_digits}
 use Rattle.std.proofs.lemmas.Fmt.{digits_decimal, digits_value-decimal, length-decimal-le, decimal_nonempty, decimal_digit, first_decimal}
 use Rattle.std.proofs.lemmas.Str.Parse.{IsNumeralModel, numerals_by_fold, tells_all_ascii_digits}
-use Rattle.std.proofs.lemmas.Bool.{and_parts, and_from, eqb-true, leb-true, le-leb, lt-ltb, ne_eqb, cases_eq}
+use Rattle.std.proofs.lemmas.Bool.{and_from, le-leb, ne_eqb, cases_eq}
+use Rattle.std.proofs.lemmas.Bool.Decides.{nat_tests}
 use Rattle.bus.specs.Numbered.{member}
-use Rattle.search.specs.Lists.{every}
+use Rattle.search.proofs.Lists.{list_all-at}
+use Rattle.boards.proofs.Elements.{numbers-among}
+use Rattle.std.specs.List.{list_all}
 use Rattle.boards.specs.Nets.{numbers_from}
 use Rattle.grammar.specs.Numerals.{read_on, number_in, leads_with_zero, is_number}
 use Rattle.grammar.specs.Text.{space}
@@ -25,9 +28,7 @@ own = numerals_by_fold _ tells_all_ascii_digits read_on (search rules)
 
 digits_above : (w : List ℕ) → all_ascii_digits w ≡ true → above space w ≡ true
 digits_above [] h = refl
-digits_above (c ∷ w) h =
-    let parts = tells_all_ascii_digits.parts c w h in
-    and_from (ltb space c) (above space w) (lt-ltb space c (omega (arith, parts.0))) (digits_above w parts.1)
+digits_above (c ∷ w) h = grind (arith, nat_tests, tells_all_ascii_digits.parts c w h, digits_above w)
 
 no_zero : (n : ℕ) → Short n → leads_with_zero (decimal n) ≡ false
 no_zero n short =
@@ -78,25 +79,9 @@ read_back set =
     let w = to_text set in
     is_to w && (eqb (set_in w) set && (above space w && leb (length w) 15))
 
-all-read_back : every read_back (numbers_from 0 256) ≡ true
+all-read_back : list_all read_back (numbers_from 0 256) ≡ true
 unfolding is_to set_in member
 all-read_back = refl
-
-every-number : (f : ℕ → Bool) (k n i : ℕ) → every f (numbers_from k n) ≡ true → k ≤ i → i < k + n → f i ≡ true
-every-number f k zero i h low high = absurd (omega arith)
-every-number f k (suc n) i h low high =
-    let both = and_parts (f k) (every f (numbers_from (suc k) n)) h in
-    elim (cases_eq k i) [
-      | inl e ↦ subst (λ (j : ℕ). f j ≡ true) e both.0
-      | inr other ↦ every-number f (suc k) n i both.1 (omega arith) (omega arith)
-    ]
-
-and_four : (a b c d : Bool) → (a && (b && (c && d))) ≡ true → (a ≡ true) × (b ≡ true) × (c ≡ true) × (d ≡ true)
-and_four a b c d h =
-    let first = and_parts a _ h in
-    let second = and_parts b _ first.1 in
-    let third = and_parts c d second.1 in
-    (first.0, second.0, third.0, third.1)
 
 -- what a word for a set has to be
 pub record SetWord (set : ℕ) (w : List ℕ) : Type 0 where
@@ -107,5 +92,10 @@ pub record SetWord (set : ℕ) (w : List ℕ) : Type 0 where
 
 pub set_word : (set : ℕ) → set < 2 ^ 8 → SetWord set (to_text set)
 set_word set eight =
-    let facts = and_four _ _ _ _ (every-number read_back 0 256 set all-read_back (omega arith) (omega arith)) in
-    record { is = facts.0; back = eqb-true _ _ facts.1; clear = facts.2; long = leb-true _ _ facts.3 }
+    let fact = list_all-at read_back set (numbers_from 0 256) all-read_back (numbers-among set 0 256 (omega arith) (omega arith)) in
+    record {
+      is = grind (arith, fact);
+      back = grind (arith, nat_tests, fact);
+      clear = grind (arith, fact);
+      long = grind (arith, nat_tests, fact);
+    }

@@ -1,10 +1,9 @@
 -- A board written as a sheet, and which boards a sheet can hold.
 use Rattle.std.specs.Prelude.{ℕ, suc, ◌+◌, Bool, true, cond, ◌&&◌, List, [], ◌∷◌, ◌++◌, map, length, codes, decimal, ◌==◌}
-use Rattle.std.specs.List.{flat_map, filter}
+use Rattle.std.specs.List.{list_all, flat_map, filter}
 use Rattle.bus.specs.Numbered.{member}
 use Rattle.bus.specs.Range.{inside}
 use Rattle.bus.specs.declared.entry.Entry.{Entry}
-use Rattle.search.specs.Lists.{every}
 use Rattle.boards.specs.Nets.{bus_numbers}
 use Rattle.grammar.specs.Content.{Content}
 use Rattle.grammar.specs.Lines.{all_pass, bus_totals, message_totals, gateway_times, bus_values, entry_values}
@@ -75,4 +74,4 @@ abbrev pub lawful : Content → Bool
 lawful c =
     inside bus_totals (length c.buses)
     && (inside message_totals (length c.entries)
-    && (inside gateway_times c.gateway && (every lawful_bus c.buses && lawful_entries (length c.buses) [] c.entries)))
+    && (inside gateway_times c.gateway && (list_all lawful_bus c.buses && lawful_entries (length c.buses) [] c.entries)))

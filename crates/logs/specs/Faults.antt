@@ -1,5 +1,6 @@
 -- How a run of a list of calls came out: whether the board was made, and what was refused of the making.
-use Rattle.std.specs.Prelude.{Some, None, Ok, Err, Option, Result}
+use Rattle.std.specs.Prelude.{codes, ℕ, List, Some, None, Ok, Err, Option, Result}
+use Rattle.bus.specs.Refusals.{said}
 use Rattle.bus.specs.declared.refusal.Refusal.{Refusal}
 use Rattle.logs.specs.declared.log_fault.LogFault.{LogFault}
 use Rattle.logs.specs.declared.log_fault.LogFault.TheVariants.{Refused, Memory}
@@ -20,3 +21,8 @@ abbrev pub WhereMade : Result (Unit {0}) LogFault → Type 0 → Type 0
 WhereMade (Ok u) P = P
 WhereMade (Err (Refused f)) P = Unit {0}
 WhereMade (Err Memory) P = P
+
+-- how it is printed
+abbrev pub fault_said : LogFault → List ℕ
+fault_said (Refused f) = said f
+fault_said Memory = codes "memory is wanting"

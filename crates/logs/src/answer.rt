@@ -3,7 +3,7 @@ use bus::refusal::Refusal;
 use planner::progress::Tried;
 use planner::rows::{Margin, Row};
 
-#[derive(PartialEq, Debug, Drop)]
+#[derive(PartialEq, Eq, Debug, Drop)]
 pub enum Answer {
     // an enter or a withdraw was accepted
     Done,

@@ -2,7 +2,7 @@
 use bus::entry::Entry;
 use planner::rows::Spot;
 
-#[derive(Drop)]
+#[derive(PartialEq, Eq, Debug, Drop)]
 pub enum Call {
     Enter(Entry),
     Withdraw(u64),

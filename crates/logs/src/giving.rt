@@ -11,9 +11,10 @@ use planner::board::Board;
 use planner::rows::{Margin, Row, Spot};
 use std::alloc::{AllocError, Global};
 
-fn give_list<'a, R: BusRule>(
+// Beside give_check: only the lending is alike; the calls and their answers are not.
+fn give_list<R: BusRule>(
     heap: Global,
-    board: &Board<'a, R>,
+    board: &Board<'_, R>,
     lent: usize,
 ) -> Result<Answer, AllocError>
     ensures { IfOk result (λ a. Gives (standing R.BusRule.answer board.now) (listing lent) (answer_of a) (standing R.BusRule.answer board.now)) }
@@ -28,9 +29,9 @@ fn give_list<'a, R: BusRule>(
     }
 }
 
-fn give_check<'a, R: BusRule>(
+fn give_check<R: BusRule>(
     heap: Global,
-    board: &Board<'a, R>,
+    board: &Board<'_, R>,
     orders: &[Spot],
     lent: usize,
 ) -> Result<Answer, AllocError>
@@ -47,9 +48,9 @@ fn give_check<'a, R: BusRule>(
 }
 
 // Makes the call; where memory is wanting for the rows to lend, it is not made.
-pub(crate) fn give<'a, R: BusRule>(
+pub(crate) fn give<R: BusRule>(
     heap: Global,
-    board: &mut Board<'a, R>,
+    board: &mut Board<'_, R>,
     call: &Call,
 ) -> Result<Answer, AllocError>
     ensures answer { IfOk result (λ a. Gives (standing R.BusRule.answer board.old) (call_of call.now) (answer_of a) (standing R.BusRule.answer board.new)) }

@@ -1,9 +1,12 @@
 // Why a list of calls was not run to its end.
-ghost use Rattle.std.specs.Prelude.{◌≡◌};
+ghost use Rattle.std.specs.Prelude.{◌≡◌, Some};
 ghost use Rattle.logs.specs.declared.log_fault.LogFault.TheVariants.{Refused, Memory};
+ghost use Rattle.logs.specs.Faults.{fault_said};
 
 use bus::refusal::Refusal;
 use std::alloc::AllocError;
+use std::error::Error;
+use std::fmt;
 
 #[derive(Clone, Copy, PartialEq, Eq, Debug)]
 pub enum LogFault {
@@ -28,3 +31,16 @@ impl From<AllocError> for LogFault {
         LogFault::Memory
     }
 }
+
+impl fmt::Display for LogFault {
+    ghost output = { λ fault. Some (fault_said fault) };
+
+    fn fmt<W: fmt::Write>(&self, f: &mut fmt::Formatter<W>) -> fmt::Result {
+        match self {
+            Self::Refused(refusal) => write!(f, "{refusal}"),
+            Self::Memory => f.write_str("memory is wanting"),
+        }
+    }
+}
+
+impl Error for LogFault {}

@@ -17,9 +17,9 @@ use planner::board::Board;
 use std::alloc::{AllocError, Global};
 
 // Makes the calls one after another, until memory is wanting for the rows of one.
-fn give_all<'a, R: BusRule>(
+fn give_all<R: BusRule>(
     heap: Global,
-    board: &mut Board<'a, R>,
+    board: &mut Board<'_, R>,
     calls: &[Call],
     answers: &mut Vec<Answer>,
 ) -> Result<(), AllocError>

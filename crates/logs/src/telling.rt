@@ -12,10 +12,7 @@ impl From<Result<(), Refusal>> for Answer {
     ghost from_gives = { λ res answer. answer_of answer ≡ changed res };
 
     fn from(res: Result<(), Refusal>) -> Answer {
-        match res {
-            Ok(()) => Answer::Done,
-            Err(refusal) => Answer::Refused(refusal),
-        }
+        res.map_or_else(Answer::Refused, |()| Answer::Done)
     }
 }
 
@@ -23,10 +20,7 @@ impl From<Result<Tried, Refusal>> for Answer {
     ghost from_gives = { λ res answer. answer_of answer ≡ tries res };
 
     fn from(res: Result<Tried, Refusal>) -> Answer {
-        match res {
-            Ok(tried) => Answer::Tried(tried),
-            Err(refusal) => Answer::Refused(refusal),
-        }
+        res.map_or_else(Answer::Refused, Answer::Tried)
     }
 }
 
@@ -35,9 +29,6 @@ impl From<Result<(u8, u64), Refusal>> for Answer {
     ghost from_gives = { λ res answer. answer_of answer ≡ looks res };
 
     fn from(res: Result<(u8, u64), Refusal>) -> Answer {
-        match res {
-            Ok((rank, delay)) => Answer::Looked(rank, delay),
-            Err(refusal) => Answer::Refused(refusal),
-        }
+        res.map_or_else(Answer::Refused, |(rank, delay)| Answer::Looked(rank, delay))
     }
 }

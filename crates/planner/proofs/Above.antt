@@ -9,7 +9,7 @@ use Rattle.boards.specs.Boards.{messages_from, rising_messages}
 use Rattle.boards.specs.Nets.{leg_at}
 use Rattle.planner.specs.Storage.{open_legs, is_open, above}
 use Rattle.planner.specs.declared.ranked.Ranked.{Ranked}
-use Rattle.planner.proofs.OneMessage.{open-first}
+use Rattle.planner.proofs.OneMessage.{open_legs-first}
 use Rattle.planner.proofs.Same.{same-on}
 
 -- ---------------------------------------------------------------- one more leg, where there is one
@@ -32,13 +32,13 @@ more_behind bus n j false l h le here there = there h
 -- ---------------------------------------------------------------- all open legs
 module _ (rs : List Ranked) (bus n : ℕ) where
   -- all of them, where no message has a number up to n
-  pub all_above : (k : ℕ) (ms : List Message) → n ≤ k → messages_from k ms ≡ true → above n (open_legs ms rs bus) ≡ open_legs ms rs bus
-  all_above k [] le h = refl
-  all_above k (m ∷ ms) le h =
+  pub above-all : (k : ℕ) (ms : List Message) → n ≤ k → messages_from k ms ≡ true → above n (open_legs ms rs bus) ≡ open_legs ms rs bus
+  above-all k [] le h = refl
+  above-all k (m ∷ ms) le h =
       let both = and_parts (ltb k m.number) (messages_from m.number ms) h in
       let lt = ltb-true k m.number both.0 in
-      let rest = all_above m.number ms (omega arith) both.1 in
-      rw (open-first rs bus m ms) (more_above bus n m.number (is_open rs bus m) (open_legs ms rs bus) (omega arith) rest)
+      let rest = above-all m.number ms (omega arith) both.1 in
+      rw (open_legs-first rs bus m ms) (more_above bus n m.number (is_open rs bus m) (open_legs ms rs bus) (omega arith) rest)
 
   -- the leg of n is none of those of the numbers up to k
   has_above : (k : ℕ) (ms : List Message) → messages_from k ms ≡ true → has (leg_at bus n) (open_legs ms rs bus) ≡ true → k < n
@@ -46,7 +46,7 @@ module _ (rs : List Ranked) (bus n : ℕ) where
   has_above k (m ∷ ms) h on =
       let both = and_parts (ltb k m.number) (messages_from m.number ms) h in
       let lt = ltb-true k m.number both.0 in
-      let first = rw (open-first rs bus m ms) at on in
+      let first = rw (open_legs-first rs bus m ms) at on in
       omega (arith, has_more bus n m.number (is_open rs bus m) (open_legs ms rs bus) first (has_above m.number ms both.1))
 
   behind-from : (k : ℕ) (ms : List Message) → messages_from k ms ≡ true → has (leg_at bus n) (open_legs ms rs bus) ≡ true →
@@ -54,11 +54,11 @@ module _ (rs : List Ranked) (bus n : ℕ) where
   behind-from k [] h on = refl
   behind-from k (m ∷ ms) h on =
       let both = and_parts (ltb k m.number) (messages_from m.number ms) h in
-      let first = rw (open-first rs bus m ms) at on in
+      let first = rw (open_legs-first rs bus m ms) at on in
       let le = has_more bus n m.number (is_open rs bus m) (open_legs ms rs bus) first (has_above m.number ms both.1) in
-      rw (open-first rs bus m ms)
+      rw (open_legs-first rs bus m ms)
       (more_behind bus n m.number (is_open rs bus m) (open_legs ms rs bus) first le
-      (λ e. all_above m.number ms (omega arith) both.1) (behind-from m.number ms both.1))
+      (λ e. above-all m.number ms (omega arith) both.1) (behind-from m.number ms both.1))
 
   pub behind-above : (ms : List Message) → rising_messages ms ≡ true → has (leg_at bus n) (open_legs ms rs bus) ≡ true →
       behind (leg_at bus n) (open_legs ms rs bus) ≡ above n (open_legs ms rs bus)

@@ -2,10 +2,10 @@
 use Rattle.std.proofs.Common.{◌≡◌, ℕ, ◌^◌, ◌≤◌, true, false, cond, ltb, leb, List, [], ◌∷◌, ◌++◌, map, length, Some, None, sym, refl, ap, ◌∙◌, arith}
 use Rattle.std.proofs.lemmas.Bool.{false≢true, eq-eqb, leb-true, and_parts, or_left}
 use Rattle.std.specs.Option.{option_to_list}
+use Rattle.std.specs.List.{list_all}
 use Rattle.bus.specs.Legs.{legs_on}
 use Rattle.bus.specs.Numbered.{member}
 use Rattle.bus.specs.declared.message.Message.{Message}
-use Rattle.search.specs.Lists.{every}
 use Rattle.search.specs.Net.{Leg, same, Net, has, less, has_any, Delays}
 use Rattle.search.specs.Walk.{Walked, put, fit, ready, candidates, test_all, after, under, walk_bus, walk_from, walk}
 use Rattle.search.proofs.Counts.{candidates-count}
@@ -22,7 +22,7 @@ some-tried fits ready above [] h = absurd (omega arith)
 some-tried fits ready above (c ∷ cs) h = omega arith
 
 -- a walk over buses of which one has a leg
-pub walk-tests : (net : Net) (ls : List (List Leg)) (p : Delays) (x : Leg) → has_any x ls ≡ true → 1 ≤ (walk_from net ls p).tries
+walk-tests : (net : Net) (ls : List (List Leg)) (p : Delays) (x : Leg) → has_any x ls ≡ true → 1 ≤ (walk_from net ls p).tries
 walk-tests net [] p x h = absurd (false≢true h)
 walk-tests net ([] ∷ ls) p x h = walk-tests net ls p x h
 walk-tests net ((y ∷ l) ∷ ls) p x h =
@@ -36,9 +36,9 @@ first-leg m ms =
     (eq-eqb m.source m.source refl)
     ∙ or_left (same (source_leg m) (source_leg m)) _ (same-itself (source_leg m))
 
-source_on : (n : ℕ) (m : Message) (ms : List Message) → every (on_board n) (m ∷ ms) ≡ true → Among m.source (bus_numbers n)
+source_on : (n : ℕ) (m : Message) (ms : List Message) → list_all (on_board n) (m ∷ ms) ≡ true → Among m.source (bus_numbers n)
 source_on n m ms h =
-    let on = (and_parts (on_board n m) (every (on_board n) ms) h).0 in
+    let on = (and_parts (on_board n m) (list_all (on_board n) ms) h).0 in
     let low : m.source ≤ n = leb-true m.source n (and_parts (leb m.source n) (ltb m.destinations (2 ^ n)) on).0 in
     numbers-among m.source 1 n m.source_range.0 (omega arith)
 
@@ -46,11 +46,11 @@ source_on n m ms h =
 pub not_ended : (b : Board) → Sound b → is_none b.messages ≡ false → (walk (net_of b)).tries ≡ 0 → ⊥
 not_ended b sound some none = go b.messages refl sound.messages.on_buses some
   where
-    go : (ms : List Message) → b.messages ≡ ms → every (on_board (bus_count b)) b.messages ≡ true → is_none b.messages ≡ false → ⊥
+    go : (ms : List Message) → b.messages ≡ ms → list_all (on_board (bus_count b)) b.messages ≡ true → is_none b.messages ≡ false → ⊥
     go [] e on some = false≢true (sym some ∙ ap is_none e)
     go (m ∷ ms) e on some =
         let n = bus_count b in
-        let among : Among m.source (bus_numbers n) = source_on n m ms (ap (every (on_board n)) (sym e) ∙ on) in
+        let among : Among m.source (bus_numbers n) = source_on n m ms (ap (list_all (on_board n)) (sym e) ∙ on) in
         let here : has (source_leg m) (net_legs b.messages m.source) ≡ true = ap (λ l. has (source_leg m) (net_legs l m.source)) e ∙ first-leg m ms in
         let any : has_any (source_leg m) (net_of b).buses ≡ true = any_among b.messages (source_leg m) (bus_numbers n) among here in
         omega (arith, walk-tests (net_of b) (net_of b).buses (λ _. None) (source_leg m) any)

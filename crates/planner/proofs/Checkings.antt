@@ -14,7 +14,7 @@ use Rattle.planner.specs.Spots.{Written}
 use Rattle.planner.specs.Standing.{Standing}
 use Rattle.planner.specs.declared.rows.Margin.{Margin}
 use Rattle.planner.specs.declared.rows.Spot.{Spot}
-use Rattle.planner.proofs.FreshBoards.{unless-none, unless-some}
+use Rattle.planner.proofs.FreshBoards.{Unless-none, Unless-some}
 
 module _ (ms : List Message) (lent needed : ℕ) (some : is_none ms ≡ false) where
   few : (right : Bool) → lent < needed → check_fault ms right lent needed ≡ Some FewRows
@@ -30,18 +30,18 @@ module _ (b : Board) (l : Walked) (rows : List Spot) (lent count : ℕ) (same : 
   abbrev at : Standing
   at = record { board = b; left = l }
 
-  pub check_few : lent < margin_count b → Gives at (check rows lent) (refused FewRows) at
-  check_few h = unless-some _ at at _ FewRows (few b.messages lent (margin_count b) some _ h) refl
+  pub Gives-check_few : lent < margin_count b → Gives at (check rows lent) (refused FewRows) at
+  Gives-check_few h = Unless-some _ at at _ FewRows (few b.messages lent (margin_count b) some _ h) refl
 
-  pub check_wrong : margin_count b ≤ lent → named count b.messages rows ≡ false → Gives at (check rows lent) (refused WrongRows) at
-  check_wrong room e =
-      unless-some _ at at _ WrongRows (wrong b.messages lent (margin_count b) some _ room (ap (λ n. named n b.messages rows) same ∙ e)) refl
+  pub Gives-check_wrong : margin_count b ≤ lent → named count b.messages rows ≡ false → Gives at (check rows lent) (refused WrongRows) at
+  Gives-check_wrong room e =
+      Unless-some _ at at _ WrongRows (wrong b.messages lent (margin_count b) some _ room (ap (λ n. named n b.messages rows) same ∙ e)) refl
 
-  pub check_gives : margin_count b ≤ lent → named count b.messages rows ≡ true → (meets : Bool) (n : ℕ) (before after : List Margin) →
+  pub Gives-check : margin_count b ≤ lent → named count b.messages rows ≡ true → (meets : Bool) (n : ℕ) (before after : List Margin) →
       meets ≡ all_met (net_of b) (orders_in count rows) → Written (margin_rows b (orders_in count rows)) before after n → Gives at (check rows lent) (checked meets (take n after)) at
-  check_gives room e meets n before after met wrote =
+  Gives-check room e meets n before after met wrote =
       let os = orders_in count rows in
-      unless-none _ at _ at _ (none b.messages lent (margin_count b) some _ room (ap (λ n. named n b.messages rows) same ∙ e)) (
+      Unless-none _ at _ at _ (none b.messages lent (margin_count b) some _ room (ap (λ n. named n b.messages rows) same ∙ e)) (
         ap (λ m. checked m (take n after)) met
             ∙ ap (λ r. checked (all_met (net_of b) os) (take n r)) wrote.rows
             ∙ ap (checked (all_met (net_of b) os)) (take_at (margin_rows b os) (drop n before) n (sym wrote.count))

@@ -1,15 +1,15 @@
 -- A board whose walk is sent back to its start, as a log has it.
-use Rattle.std.proofs.Common.{◌≡◌, ℕ, suc, ◌≤◌, true, List, [], ◌∷◌, map, length, Some, None, Option, sym, refl, ap, ◌∙◌, subst}
+use Rattle.std.proofs.Common.{◌≡◌, ℕ, ◌≤◌, true, List, map, length, Some, None, Option, sym, refl, ap, ◌∙◌, subst}
 use Rattle.std.proofs.lemmas.List.{length-map}
+use Rattle.std.specs.List.{list_all}
 use Rattle.bus.specs.Entries.{Holds}
 use Rattle.bus.specs.Rules.{Meaning}
 use Rattle.bus.specs.declared.entry.Entry.{Entry}
 use Rattle.bus.specs.declared.message.Message.{Message}
 use Rattle.bus.specs.declared.refusal.Refusal.{Refusal}
-use Rattle.search.specs.Lists.{every}
 use Rattle.search.specs.Stored as walk
 use Rattle.search.specs.Walk.{Walked}
-use Rattle.search.proofs.Kept.{every-stage_is_kept}
+use Rattle.search.proofs.Kept.{every_stage_is_kept}
 use Rattle.search.proofs.Stored.{first-stage_has_all}
 use Rattle.boards.specs.Boards.{Board, board_of, bus_count, rising_messages, on_board, Keeps, Sound}
 use Rattle.boards.specs.Nets.{net_of}
@@ -23,41 +23,37 @@ use Rattle.planner.specs.declared.ranked.Ranked.{Ranked}
 use Rattle.planner.specs.declared.stage.Stage.{Stage}
 use Rattle.planner.specs.declared.stage.Stage.TheVariants.{Start}
 
-pub unless-none : (o : Option Refusal) (s : Standing) (a : Answer) (t : Standing) (P : Type 0) → o ≡ None → P → Unless o s a t P
-unless-none o s a t P e h = subst (λ x. Unless x s a t P) (sym e) h
+pub Unless-none : (o : Option Refusal) (s : Standing) (a : Answer) (t : Standing) (P : Type 0) → o ≡ None → P → Unless o s a t P
+Unless-none o s a t P e h = subst (λ x. Unless x s a t P) (sym e) h
 
-pub unless-some : (o : Option Refusal) (s : Standing) (t : Standing) (P : Type 0) (f : Refusal) → o ≡ Some f → t ≡ s → Unless o s (refused f) t P
-unless-some o s t P f e h = subst (λ x. Unless x s (refused f) t P) (sym e) (refl, h)
-
-pub length_map : {X Y : Type 0} (f : X → Y) (xs : List X) → length (map f xs) ≡ length xs
-length_map f [] = refl
-length_map f (x ∷ xs) = ap suc (length_map f xs)
+pub Unless-some : (o : Option Refusal) (s : Standing) (t : Standing) (P : Type 0) (f : Refusal) → o ≡ Some f → t ≡ s → Unless o s (refused f) t P
+Unless-some o s t P f e h = subst (λ x. Unless x s (refused f) t P) (sym e) (refl, h)
 
 -- a walk at its start: nothing is ranked, and all is still to come
 module _ (rs : List Ranked) (s : Stage) (start : s ≡ Start) where
-  pub start-stands : (n : ℕ) (ms : List Message) → stands n ms rs s ≡ true
-  start-stands n ms = ap (stands n ms rs) start ∙ (every-stage_is_kept (layout n ms)).1.first
+  pub stands-start : (n : ℕ) (ms : List Message) → stands n ms rs s ≡ true
+  stands-start n ms = ap (stands n ms rs) start ∙ (every_stage_is_kept (layout n ms)).1.first
 
-  pub start-fresh : (b : Board) → ◌≡◌ {A = Standing} (record { board = b; left = walk.left (net_of b) (stage_of (net_of b) rs s) }) (fresh b)
-  start-fresh b =
+  pub fresh-start : (b : Board) → ◌≡◌ {A = Standing} (record { board = b; left = walk.left (net_of b) (stage_of (net_of b) rs s) }) (fresh b)
+  fresh-start b =
       ap (λ (l : Walked). record { board = b; left = l })
       (ap (λ x. walk.left (net_of b) (stage_of (net_of b) rs x)) start ∙ first-stage_has_all (net_of b))
 
 -- a change that is accepted
 module _ (b : Board) (l : Walked) (ms : List Message) (t : Standing) (new : t ≡ fresh (with_messages b ms)) where
-  pub entered-gives : (e : Entry) (m : Message) → enter_fault (bus_count b) b.messages e ≡ None → Holds e m → ms ≡ entered m b.messages →
+  pub Gives-enter : (e : Entry) (m : Message) → enter_fault (bus_count b) b.messages e ≡ None → Holds e m → ms ≡ entered m b.messages →
       Gives (record { board = b; left = l }) (enter e) done t
-  entered-gives e m none holds put =
-      unless-none _ (record { board = b; left = l }) done t _ none (m, holds, refl, new ∙ ap (λ ms. fresh (with_messages b ms)) put)
+  Gives-enter e m none holds put =
+      Unless-none _ (record { board = b; left = l }) done t _ none (m, holds, refl, new ∙ ap (λ ms. fresh (with_messages b ms)) put)
 
-  pub withdrawn-gives : (n : ℕ) → withdraw_fault b.messages n ≡ None → ms ≡ withdrawn n b.messages →
+  pub Gives-withdraw : (n : ℕ) → withdraw_fault b.messages n ≡ None → ms ≡ withdrawn n b.messages →
       Gives (record { board = b; left = l }) (withdraw n) done t
-  withdrawn-gives n none took =
-      unless-none _ (record { board = b; left = l }) done t _ none (refl, new ∙ ap (λ ms. fresh (with_messages b ms)) took)
+  Gives-withdraw n none took =
+      Unless-none _ (record { board = b; left = l }) done t _ none (refl, new ∙ ap (λ ms. fresh (with_messages b ms)) took)
 
 -- a board that is made of rules with the laws
-pub board-sound : {S : Type 0} (f : S → Meaning) → ((s : S) → Keeps (f s)) → (rules : List S) (gateway : ℕ) (ms : List Message) → length rules ≤ 8 →
-    rising_messages ms ≡ true → every (on_board (length rules)) ms ≡ true → Sound (board_of (map f rules) gateway ms)
-board-sound f keeps rules gateway ms few rise on =
+pub Sound-board_of : {S : Type 0} (f : S → Meaning) → ((s : S) → Keeps (f s)) → (rules : List S) (gateway : ℕ) (ms : List Message) → length rules ≤ 8 →
+    rising_messages ms ≡ true → list_all (on_board (length rules)) ms ≡ true → Sound (board_of (map f rules) gateway ms)
+Sound-board_of f keeps rules gateway ms few rise on =
     (walk_laws-over f keeps rules gateway ms (subst (λ n. n ≤ 8) (sym (length-map rules f)) few)
-    (record { rise = rise; on_buses = subst (λ n. every (on_board n) ms ≡ true) (sym (length-map rules f)) on })).0
+    (record { rise = rise; on_buses = subst (λ n. list_all (on_board n) ms ≡ true) (sym (length-map rules f)) on })).0

@@ -1,4 +1,4 @@
--- What a chain over `a..=b` gives: the numbers from a to b.
+-- What a chain over `a..=b` AlwaysYields-from_inclusive: the numbers from a to b.
 use Rattle.std.proofs.Common.{◌≡◌, ℕ, zero, suc, ◌+◌, ◌-◌, true, false, ap, ◌∙◌, inl, inr, add-one, arith}
 use Rattle.std.specs.Iterator.{AlwaysYields}
 use Rattle.std.specs.declared.ops.RangeInclusive.{RangeInclusive}
@@ -12,19 +12,19 @@ use Rattle.boards.specs.Nets.{numbers_from}
 abbrev left : RangeInclusive ℕ → ℕ
 left s = range_inclusive_len (λ x y. y - x) (range_inclusive_start s) (range_inclusive_end s) (range_inclusive_exhausted s)
 
-spent : (s : RangeInclusive ℕ) → range_inclusive_exhausted s ≡ true → left s ≡ 0
-spent s e = ap (range_inclusive_len (λ x y. y - x) (range_inclusive_start s) (range_inclusive_end s)) e
+left-exhausted : (s : RangeInclusive ℕ) → range_inclusive_exhausted s ≡ true → left s ≡ 0
+left-exhausted s e = ap (range_inclusive_len (λ x y. y - x) (range_inclusive_start s) (range_inclusive_end s)) e
 
-gives : (n a : ℕ) (s : RangeInclusive ℕ) → left s ≡ n → (range_inclusive_exhausted s ≡ false → range_inclusive_start s ≡ a) →
+AlwaysYields-from_inclusive : (n a : ℕ) (s : RangeInclusive ℕ) → left s ≡ n → (range_inclusive_exhausted s ≡ false → range_inclusive_start s ≡ a) →
     AlwaysYields nat_range_inclusive_steps (λ x. x) s (numbers_from a n)
-gives zero a s e starts = λ x t p. omega (arith, p.1.1)
-gives (suc n) a s e starts = (
+AlwaysYields-from_inclusive zero a s e starts = λ x t p. omega (arith, p.1.1)
+AlwaysYields-from_inclusive (suc n) a s e starts = (
   λ t p. omega (arith, p.1.0),
   λ x t p.
       elim (cases_Bool (range_inclusive_exhausted s)) [
-        | inl y ↦ absurd (omega (arith, spent s y))
+        | inl y ↦ absurd (omega (arith, left-exhausted s y))
         | inr y ↦
-            (p.1.0 ∙ starts y, gives n (suc a) t (omega (arith, p.1.1)) (λ f. p.1.2 f ∙ ap (λ k. k + 1) (starts y) ∙ add-one a))
+            (p.1.0 ∙ starts y, AlwaysYields-from_inclusive n (suc a) t (omega (arith, p.1.1)) (λ f. p.1.2 f ∙ ap (λ k. k + 1) (starts y) ∙ add-one a))
       ],
 )
 
@@ -33,4 +33,4 @@ pub YieldsList-from_inclusive : {s : RangeInclusive ℕ} (a b n : ℕ) → range
 YieldsList-from_inclusive {s} a b n low high fresh many =
     let counted : left s ≡ range_inclusive_end s - range_inclusive_start s + 1 - (range_inclusive_start s - range_inclusive_end s) =
     ap (range_inclusive_len (λ x y. y - x) (range_inclusive_start s) (range_inclusive_end s)) fresh in
-    record { runs = gives n a s (omega arith) (λ _. low) }
+    record { runs = AlwaysYields-from_inclusive n a s (omega arith) (λ _. low) }

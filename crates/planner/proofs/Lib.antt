@@ -1,16 +1,13 @@
 pub mod Above
 pub mod AllRows
-pub mod AmongMessages
 pub mod Attempts
 pub mod Begins
 pub mod BoardFacts
 pub mod BoardRoom
 pub mod BusRules
 pub mod Checkings
-pub mod DestinationLoop
 pub mod Destinations
 pub mod Entered
-pub mod Every
 pub mod FitOnBoard
 pub mod FoundBoards
 pub mod FreshBoards
@@ -20,7 +17,6 @@ pub mod Listed
 pub mod Listings
 pub mod LogLaw
 pub mod Mapped
-pub mod MarginBounds
 pub mod MarginCounts
 pub mod MarginsTell
 pub mod MessageLegs
@@ -43,6 +39,7 @@ pub mod Pushed
 pub mod Rankings
 pub mod RankedNumbers
 pub mod RankedOnce
+pub mod Reversed
 pub mod Rising
 pub mod RowPlaces
 pub mod RowsAhead

@@ -19,15 +19,15 @@ use Rattle.planner.specs.declared.rows.Row.{Row}
 use Rattle.planner.specs.declared.stage.Stage.{Stage}
 use Rattle.planner.specs.declared.stage.Stage.TheVariants.{Start, Testing, Complete, Exhausted}
 use Rattle.planner.specs.Storage.{ranked_of}
-use Rattle.planner.proofs.FoundBoards.{none-without, none-testing, none-at_start, none-exhausted, found-complete}
-use Rattle.planner.proofs.FreshBoards.{unless-none, unless-some}
-use Rattle.planner.proofs.LogLaw.{not_refused}
+use Rattle.planner.proofs.FoundBoards.{found_orders-without, found_orders-testing, found_orders-at_start, found_orders-exhausted, found_orders-complete}
+use Rattle.planner.proofs.FreshBoards.{Unless-none, Unless-some}
+use Rattle.planner.proofs.LogLaw.{refused_if-none}
 
-pub complete_is : (s : Stage) → is_complete s ≡ true → s ≡ Complete
-complete_is Start e = absurd (false≢true e)
-complete_is (Testing x) e = absurd (false≢true e)
-complete_is Complete e = refl
-complete_is Exhausted e = absurd (false≢true e)
+pub is_complete-means : (s : Stage) → is_complete s ≡ true → s ≡ Complete
+is_complete-means Start e = absurd (false≢true e)
+is_complete-means (Testing x) e = absurd (false≢true e)
+is_complete-means Complete e = refl
+is_complete-means Exhausted e = absurd (false≢true e)
 
 -- what is tested of a look before it matters whether the walk has ended
 pub record LookTests (count : ℕ) (ms : List Message) (bus n : ℕ) : Type 0 where
@@ -35,11 +35,11 @@ pub record LookTests (count : ℕ) (ms : List Message) (bus n : ℕ) : Type 0 wh
   pub high : bus ≤ count
   pub leg : is_some (leg_from bus (message_of ms n)) ≡ true
 
-pub look_tests : (count : ℕ) (ms : List Message) (bus n : ℕ) → look_fault count ms true bus n ≡ None → LookTests count ms bus n
-look_tests count ms bus n e =
-    let range = not_refused (not (inside buses bus && inside numbers n)) Range _ e in
-    let board = not_refused (not (leb bus count)) NoBus _ range.1 in
-    let leg = not_refused (not (is_some (leg_from bus (message_of ms n)))) NoLeg _ board.1 in
+pub look_fault-tests : (count : ℕ) (ms : List Message) (bus n : ℕ) → look_fault count ms true bus n ≡ None → LookTests count ms bus n
+look_fault-tests count ms bus n e =
+    let range = refused_if-none (not (inside buses bus && inside numbers n)) Range _ e in
+    let board = refused_if-none (not (leb bus count)) NoBus _ range.1 in
+    let leg = refused_if-none (not (is_some (leg_from bus (message_of ms n)))) NoLeg _ board.1 in
     let bounds = and_parts (inside buses bus) (inside numbers n) (not-false _ range.0) in
     record {
       low = leb-true 1 bus (and_parts (leb 1 bus) (leb bus 8) bounds.0).0;
@@ -47,11 +47,11 @@ look_tests count ms bus n e =
       leg = not-false _ leg.0;
     }
 
-look_unfound : (count : ℕ) (ms : List Message) (bus n : ℕ) → look_fault count ms true bus n ≡ None → look_fault count ms false bus n ≡ Some NotFound
-look_unfound count ms bus n e =
-    let range = not_refused (not (inside buses bus && inside numbers n)) Range _ e in
-    let board = not_refused (not (leb bus count)) NoBus _ range.1 in
-    let leg = not_refused (not (is_some (leg_from bus (message_of ms n)))) NoLeg _ board.1 in
+look_fault-unfound : (count : ℕ) (ms : List Message) (bus n : ℕ) → look_fault count ms true bus n ≡ None → look_fault count ms false bus n ≡ Some NotFound
+look_fault-unfound count ms bus n e =
+    let range = refused_if-none (not (inside buses bus && inside numbers n)) Range _ e in
+    let board = refused_if-none (not (leb bus count)) NoBus _ range.1 in
+    let leg = refused_if-none (not (is_some (leg_from bus (message_of ms n)))) NoLeg _ board.1 in
     rw (range.0, board.0, leg.0) refl
 
 module _ (b : Board) (sound : Sound b) (rs : List Ranked) where
@@ -59,50 +59,50 @@ module _ (b : Board) (sound : Sound b) (rs : List Ranked) where
   at s = record { board = b; left = walk.left (net_of b) (stage_of (net_of b) rs s) }
 
   -- not found where there are no messages, or the walk is not complete
-  not_found : (s : Stage) → (not (is_none b.messages) && is_complete s) ≡ false → found_orders (at s) ≡ None
-  not_found s e = go (is_none b.messages) refl s e
+  found_orders-not_found : (s : Stage) → (not (is_none b.messages) && is_complete s) ≡ false → found_orders (at s) ≡ None
+  found_orders-not_found s e = go (is_none b.messages) refl s e
     where
       go : (t : Bool) → is_none b.messages ≡ t → (s : Stage) → (not t && is_complete s) ≡ false → found_orders (at s) ≡ None
-      go true t s e = none-without b (stage_of (net_of b) rs s) t
-      go false t Start e = none-at_start b sound t
-      go false t (Testing x) e = none-testing b (ranked_of rs) _ t
+      go true t s e = found_orders-without b (stage_of (net_of b) rs s) t
+      go false t Start e = found_orders-at_start b sound t
+      go false t (Testing x) e = found_orders-testing b (ranked_of rs) _ t
       go false t Complete e = absurd (false≢true (sym e))
-      go false t Exhausted e = none-exhausted b t
+      go false t Exhausted e = found_orders-exhausted b t
 
-  pub is_found_lem : (s : Stage) → (not (is_none b.messages) && is_complete s) ≡ true → walk.placed_at (net_of b) (walk.complete (ranked_of rs)) ≡ true →
+  pub found_orders-found : (s : Stage) → (not (is_none b.messages) && is_complete s) ≡ true → walk.placed_at (net_of b) (walk.complete (ranked_of rs)) ≡ true →
       found_orders (at s) ≡ Some (walk.orders_of (net_of b) (ranked_of rs))
-  is_found_lem s e placed =
+  found_orders-found s e placed =
       let both = and_parts (not (is_none b.messages)) (is_complete s) e in
-      ap (λ x. found_orders (at x)) (complete_is s both.1) ∙ found-complete b sound (not-true _ both.0) (ranked_of rs) placed
+      ap (λ x. found_orders (at x)) (is_complete-means s both.1) ∙ found_orders-complete b sound (not-true _ both.0) (ranked_of rs) placed
 
-  pub list_not_found : (s : Stage) (lent : ℕ) → (not (is_none b.messages) && is_complete s) ≡ false → Gives (at s) (list lent) (refused NotFound) (at s)
-  list_not_found s lent e =
-      unless-some (list_fault (is_some (found_orders (at s))) lent (row_count b (found_orders (at s)))) (at s) (at s) _ NotFound
-      (ap (λ o. list_fault (is_some o) lent (row_count b o)) (not_found s e)) refl
+  pub Gives-list_not_found : (s : Stage) (lent : ℕ) → (not (is_none b.messages) && is_complete s) ≡ false → Gives (at s) (list lent) (refused NotFound) (at s)
+  Gives-list_not_found s lent e =
+      Unless-some (list_fault (is_some (found_orders (at s))) lent (row_count b (found_orders (at s)))) (at s) (at s) _ NotFound
+      (ap (λ o. list_fault (is_some o) lent (row_count b o)) (found_orders-not_found s e)) refl
 
   module _ (s : Stage) (os : List (List Leg)) (found : found_orders (at s) ≡ Some os) where
-    pub list_few : (lent : ℕ) → lent < length (rows_of (net_of b) os) → Gives (at s) (list lent) (refused FewRows) (at s)
-    list_few lent few =
-        unless-some (list_fault (is_some (found_orders (at s))) lent (row_count b (found_orders (at s)))) (at s) (at s) _ FewRows
+    pub Gives-list_few : (lent : ℕ) → lent < length (rows_of (net_of b) os) → Gives (at s) (list lent) (refused FewRows) (at s)
+    Gives-list_few lent few =
+        Unless-some (list_fault (is_some (found_orders (at s))) lent (row_count b (found_orders (at s)))) (at s) (at s) _ FewRows
         (ap (λ o. list_fault (is_some o) lent (row_count b o)) found ∙ ap (λ t. refused_if t FewRows None) (lt-ltb _ _ few)) refl
 
-    pub list_gives : (lent count : ℕ) (before after : List Row) → length (rows_of (net_of b) os) ≤ lent → count ≡ length (rows_of (net_of b) os) →
+    pub Gives-list : (lent count : ℕ) (before after : List Row) → length (rows_of (net_of b) os) ≤ lent → count ≡ length (rows_of (net_of b) os) →
         after ≡ rows_of (net_of b) os ++ drop count before → Gives (at s) (list lent) (listed (take count after)) (at s)
-    list_gives lent count before after room is wrote =
-        unless-none (list_fault (is_some (found_orders (at s))) lent (row_count b (found_orders (at s)))) (at s) _ (at s) _
+    Gives-list lent count before after room is wrote =
+        Unless-none (list_fault (is_some (found_orders (at s))) lent (row_count b (found_orders (at s)))) (at s) _ (at s) _
         (ap (λ o. list_fault (is_some o) lent (row_count b o)) found ∙ ap (λ t. refused_if t FewRows None) (le-ltb _ _ room))
         (os, found, ap (λ l. listed (take count l)) wrote ∙ ap listed (take_at (rows_of (net_of b) os) _ count (sym is)), refl)
 
-    pub look_gives : (bus n : ℕ) (r : Row) → look_fault (bus_count b) b.messages true bus n ≡ None → row_at bus n (rows_of (net_of b) os) ≡ Some r →
+    pub Gives-look : (bus n : ℕ) (r : Row) → look_fault (bus_count b) b.messages true bus n ≡ None → row_at bus n (rows_of (net_of b) os) ≡ Some r →
         Gives (at s) (look bus n) (looked r.rank r.delay) (at s)
-    look_gives bus n r none row =
-        unless-none (look_fault (bus_count b) b.messages (is_some (found_orders (at s))) bus n) (at s) _ (at s) _
+    Gives-look bus n r none row =
+        Unless-none (look_fault (bus_count b) b.messages (is_some (found_orders (at s))) bus n) (at s) _ (at s) _
         (ap (λ o. look_fault (bus_count b) b.messages (is_some o) bus n) found ∙ none)
         (os, found, r, row, refl, refl)
 
   -- a look at a leg that has no place yet
-  pub look_not_found : (s : Stage) (bus n : ℕ) → (not (is_none b.messages) && is_complete s) ≡ false →
+  pub Gives-look_not_found : (s : Stage) (bus n : ℕ) → (not (is_none b.messages) && is_complete s) ≡ false →
       look_fault (bus_count b) b.messages true bus n ≡ None → Gives (at s) (look bus n) (refused NotFound) (at s)
-  look_not_found s bus n e none =
-      unless-some (look_fault (bus_count b) b.messages (is_some (found_orders (at s))) bus n) (at s) (at s) _ NotFound
-      (ap (λ o. look_fault (bus_count b) b.messages (is_some o) bus n) (not_found s e) ∙ look_unfound (bus_count b) b.messages bus n none) refl
+  Gives-look_not_found s bus n e none =
+      Unless-some (look_fault (bus_count b) b.messages (is_some (found_orders (at s))) bus n) (at s) (at s) _ NotFound
+      (ap (λ o. look_fault (bus_count b) b.messages (is_some o) bus n) (found_orders-not_found s e) ∙ look_fault-unfound (bus_count b) b.messages bus n none) refl

@@ -11,9 +11,9 @@ use Rattle.planner.specs.Checks.{margins_of, margin_rows}
 use Rattle.planner.specs.Logs.{margin_count}
 use Rattle.planner.specs.Spots.{Written, rows_for}
 use Rattle.planner.specs.declared.rows.Margin.{Margin}
-use Rattle.planner.proofs.Fronts.{Writing, writing-part, writing-front, writing-within}
-use Rattle.planner.proofs.MarginCounts.{margins_length, margins_as_many}
-use Rattle.planner.proofs.Turns.{turn}
+use Rattle.planner.proofs.Fronts.{Writing, Writing-part, Writing-front, Writing-within}
+use Rattle.planner.proofs.MarginCounts.{length-margins_of, margins_as_many}
+use Rattle.planner.proofs.Turns.{drop-turn}
 
 -- the rows of the messages from place i on are still to come
 pub record Rows (b : Board) (os : List (List Leg)) (before now : List Margin) (i n : ℕ) : Type 0 where
@@ -22,29 +22,29 @@ pub record Rows (b : Board) (os : List (List Leg)) (before now : List Margin) (i
 
 module _ {b : Board} {os : List (List Leg)} {before now : List Margin} {i n : ℕ} (w : Rows b os before now i n) (ms : List Message) (same : ms ≡ b.messages) where
   module _ (m : Message) (more : i < length ms) (read : m ≡ get_or ms i m) where
-    at-message : Writing (margins_of (net_of b) os m ++ flat_map (margins_of (net_of b) os) (drop (i + 1) b.messages)) (margin_rows b os) before now n
-    at-message =
+    Rows-at_message : Writing (margins_of (net_of b) os m ++ flat_map (margins_of (net_of b) os) (drop (i + 1) b.messages)) (margin_rows b os) before now n
+    Rows-at_message =
         subst (λ l. Writing l (margin_rows b os) before now n)
-        (turn (flat_map (margins_of (net_of b) os)) b.messages i m (subst (λ l. i < length l) same more) (subst (λ l. m ≡ get_or l i m) same read)) w.left
+        (drop-turn (flat_map (margins_of (net_of b) os)) b.messages i m (subst (λ l. i < length l) same more) (subst (λ l. m ≡ get_or l i m) same read)) w.left
 
-    message_needs : n + rows_for m ≤ margin_count b
-    message_needs =
-        omega (arith, at-message.left, length-append (margins_of (net_of b) os m) (flat_map (margins_of (net_of b) os) (drop (i + 1) b.messages)), margins_length (net_of b) os m, margins_as_many b os)
+    Rows-need : n + rows_for m ≤ margin_count b
+    Rows-need =
+        omega (arith, Rows-at_message.left, length-append (margins_of (net_of b) os m) (flat_map (margins_of (net_of b) os) (drop (i + 1) b.messages)), length-margins_of (net_of b) os m, margins_as_many b os)
 
     -- there is room for the rows of the message
-    pub message_room : length now ≡ length before → margin_count b ≤ length before → rows_for m ≤ length (take (length now - n) (drop n now))
-    message_room same room = omega (arith, message_needs, ap length (take_rest now n), length-drop n now)
+    pub Rows-room : length now ≡ length before → margin_count b ≤ length before → rows_for m ≤ length (take (length now - n) (drop n now))
+    Rows-room same room = omega (arith, Rows-need, ap length (take_rest now n), length-drop n now)
 
-    pub message_written : (part : List Margin) (k : ℕ) → Written (margins_of (net_of b) os m) (take (length now - n) (drop n now)) part k →
+    pub Rows-written : (part : List Margin) (k : ℕ) → Written (margins_of (net_of b) os m) (take (length now - n) (drop n now)) part k →
         Rows b os before (put_mid n (length now - n) now part) (i + 1) (n + k)
-    message_written part k p =
+    Rows-written part k p =
         let next =
-        writing-part (margins_of (net_of b) os m) (flat_map (margins_of (net_of b) os) (drop (i + 1) b.messages)) (margin_rows b os) before now part n k w.within at-message p
+        Writing-part (margins_of (net_of b) os m) (flat_map (margins_of (net_of b) os) (drop (i + 1) b.messages)) (margin_rows b os) before now part n k w.within Rows-at_message p
         in
-        record { within = writing-within _ _ _ _ _ next; left = next }
+        record { within = Writing-within _ _ _ _ _ next; left = next }
 
-  at-end : length ms ≤ i → Writing [] (margin_rows b os) before now n
-  at-end h = subst (λ l. Writing l (margin_rows b os) before now n) (at_drop_all (flat_map (margins_of (net_of b) os)) b.messages i (subst (λ l. length l ≤ i) same h)) w.left
+  Rows-at_end : length ms ≤ i → Writing [] (margin_rows b os) before now n
+  Rows-at_end h = subst (λ l. Writing l (margin_rows b os) before now n) (at_drop_all (flat_map (margins_of (net_of b) os)) b.messages i (subst (λ l. length l ≤ i) same h)) w.left
 
-  pub rows-front : length ms ≤ i → take n now ≡ margin_rows b os
-  rows-front h = writing-front (margin_rows b os) before now n (at-end h)
+  pub Rows-front : length ms ≤ i → take n now ≡ margin_rows b os
+  Rows-front h = Writing-front (margin_rows b os) before now n (Rows-at_end h)

@@ -8,7 +8,7 @@ use Rattle.search.specs.Deadlines.{delay_in, delays}
 use Rattle.search.specs.Net.{Leg, same, Net, has}
 use Rattle.search.specs.Stored.{behind}
 use Rattle.search.proofs.Legs.{same-tells, same-turned}
-use Rattle.search.proofs.Lists.{Among, every-at}
+use Rattle.search.proofs.Lists.{Among, list_all-at}
 use Rattle.boards.specs.Boards.{Board, rule_at}
 use Rattle.boards.specs.Nets.{leg_at, net_legs, bus_numbers, net_of}
 use Rattle.boards.proofs.Elements.{numbers-among}
@@ -16,8 +16,8 @@ use Rattle.planner.specs.Checks.{order_in, orders_in, is_order, by_bus, named}
 use Rattle.planner.specs.Spots.{down_in, ahead}
 use Rattle.planner.specs.declared.rows.Spot.{Spot}
 use Rattle.planner.proofs.MessageLegs.{has-leg_inside}
-use Rattle.planner.proofs.OrderTests.{has-reverse, order-down, order-distinct, order-part}
-use Rattle.planner.proofs.RowsAhead.{has-ahead, ahead-behind, down_bus, down_within}
+use Rattle.planner.proofs.OrderTests.{has-reverse, order_in-down, is_order-distinct, is_order-part}
+use Rattle.planner.proofs.RowsAhead.{has-ahead, ahead-behind, down_in-bus, down_in-within}
 
 -- ---------------------------------------------------------------- in one order, and in several
 delay_in-behind : (net : Net) (o : List Leg) (x : Leg) → has x o ≡ true → delay_in net o x ≡ net.delay x (behind x o)
@@ -50,8 +50,8 @@ module _ (net : Net) (f : ℕ → List Leg) (x : Leg) where
       ]
 
 -- ---------------------------------------------------------------- as the rows name them
-has-order : (rows : List Spot) (k : ℕ) (x : Leg) → has x (order_in rows k) ≡ has x (down_in rows k)
-has-order rows k x = ap (has x) (order-down rows k) ∙ has-reverse x (down_in rows k)
+has-order_in : (rows : List Spot) (k : ℕ) (x : Leg) → has x (order_in rows k) ≡ has x (down_in rows k)
+has-order_in rows k x = ap (has x) (order_in-down rows k) ∙ has-reverse x (down_in rows k)
 
 module _ (b : Board) (rows : List Spot) (bus n : ℕ) where
   -- no row names the leg
@@ -60,8 +60,8 @@ module _ (b : Board) (rows : List Spot) (bus n : ℕ) where
       delays-none (net_of b) (order_in rows) (leg_at bus n)
       (λ k. elim (cases_Bool (has (leg_at bus n) (order_in rows k))) [
         | inl t ↦
-            let on : has (leg_at bus n) (down_in rows k) ≡ true = sym (has-order rows k (leg_at bus n)) ∙ t in
-            absurd (both_ways (has (leg_at bus n) (down_in rows bus)) h (ap (λ v. has (leg_at bus n) (down_in rows v)) (down_bus rows k bus n on) ∙ on))
+            let on : has (leg_at bus n) (down_in rows k) ≡ true = sym (has-order_in rows k (leg_at bus n)) ∙ t in
+            absurd (both_ways (has (leg_at bus n) (down_in rows bus)) h (ap (λ v. has (leg_at bus n) (down_in rows v)) (down_in-bus rows k bus n on) ∙ on))
         | inr t ↦ t
       ])
       (bus_numbers count)
@@ -73,15 +73,15 @@ module _ (b : Board) (rows : List Spot) (bus n : ℕ) where
   named-delay count bits all h above =
       let d = down_in rows bus in
       let both = and_parts (by_bus 1 count rows) _ all in
-      let within = down_within 1 count rows bus n both.0 h in
+      let within = down_in-within 1 count rows bus n both.0 h in
       let among = numbers-among bus 1 count within.0 (omega (arith, within)) in
       let order : is_order (order_in rows bus) (net_legs b.messages bus) ≡ true =
-      every-at (λ k. is_order (order_in rows k) (net_legs b.messages k)) bus (bus_numbers count) both.1 among
+      list_all-at (λ k. is_order (order_in rows k) (net_legs b.messages k)) bus (bus_numbers count) both.1 among
       in
-      let on : has (leg_at bus n) (order_in rows bus) ≡ true = has-order rows bus (leg_at bus n) ∙ h in
+      let on : has (leg_at bus n) (order_in rows bus) ≡ true = has-order_in rows bus (leg_at bus n) ∙ h in
       let inside-ahead : (k : ℕ) → has (leg_at bus k) (ahead (leg_at bus n) d) ≡ true → inside numbers k ≡ true =
       λ k t. has-leg_inside b.messages bus k
-      (order-part (leg_at bus k) (order_in rows bus) (net_legs b.messages bus) order (has-order rows bus (leg_at bus k) ∙ has-ahead (leg_at bus n) (leg_at bus k) d t))
+      (is_order-part (leg_at bus k) (order_in rows bus) (net_legs b.messages bus) order (has-order_in rows bus (leg_at bus k) ∙ has-ahead (leg_at bus n) (leg_at bus k) d t))
       in
       let same_set : (k : ℕ) → member bits k ≡ has (leg_at bus k) (behind (leg_at bus n) (order_in rows bus)) =
       λ k.
@@ -90,11 +90,11 @@ module _ (b : Board) (rows : List Spot) (bus n : ℕ) where
         | inl t ↦ ap (λ u. u && has (leg_at bus k) (ahead (leg_at bus n) d)) (inside-ahead k t)
         | inr t ↦ grind (arith, t)
       ]
-      ∙ sym (ap (λ o. has (leg_at bus k) (behind (leg_at bus n) o)) (order-down rows bus)
-      ∙ ahead-behind (leg_at bus n) (leg_at bus k) d (order-distinct rows bus (net_legs b.messages bus) order) h)
+      ∙ sym (ap (λ o. has (leg_at bus k) (behind (leg_at bus n) o)) (order_in-down rows bus)
+      ∙ ahead-behind (leg_at bus n) (leg_at bus k) d (is_order-distinct rows bus (net_legs b.messages bus) order) h)
       in
       ap (rule_at b.rules bus (legs_on b.messages bus) n) (λ i k. same_set k i)
       ∙ sym (delay_in-behind (net_of b) (order_in rows bus) (leg_at bus n) on)
       ∙ sym
-      (delays-one (net_of b) (order_in rows) (leg_at bus n) bus on (λ k t. sym (down_bus rows k bus n (sym (has-order rows k (leg_at bus n)) ∙ t)))
+      (delays-one (net_of b) (order_in rows) (leg_at bus n) bus on (λ k t. sym (down_in-bus rows k bus n (sym (has-order_in rows k (leg_at bus n)) ∙ t)))
       (bus_numbers count) among)

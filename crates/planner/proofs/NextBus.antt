@@ -64,42 +64,42 @@ module _ (ms : List Message) (rs : List Ranked) where
       open-from r x 1 count m ∙ ap (λ n. first_open (r ∷ rs) (map (net_legs ms) (numbers_from x.bus n))) e
 
 -- ---------------------------------------------------------------- bus after bus
-buses-more : (count : ℕ) (ms : List Message) (k : ℕ) → k ≤ count → buses_from count ms k ≡ net_legs ms k ∷ buses_from count ms (k + 1)
-buses-more count ms k le =
+buses_from-more : (count : ℕ) (ms : List Message) (k : ℕ) → k ≤ count → buses_from count ms k ≡ net_legs ms k ∷ buses_from count ms (k + 1)
+buses_from-more count ms k le =
     let more : count + 1 - k ≡ suc (count - k) = omega arith in
     let rest : count - k ≡ count + 1 - (k + 1) = omega arith in
     ap (λ n. map (net_legs ms) (numbers_from k n)) more
     ∙ ap₂ (λ i n. net_legs ms k ∷ map (net_legs ms) (numbers_from i n)) (sym (add-one k)) rest
 
-buses-none : (count : ℕ) (ms : List Message) (k : ℕ) → count < k → buses_from count ms k ≡ []
-buses-none count ms k lt =
+buses_from-none : (count : ℕ) (ms : List Message) (k : ℕ) → count < k → buses_from count ms k ≡ []
+buses_from-none count ms k lt =
     let e : count + 1 - k ≡ 0 = omega arith in
     ap (λ n. map (net_legs ms) (numbers_from k n)) e
 
-first-none : (cs : List Leg) → head_of cs ≡ None → length cs ≡ 0
-first-none [] e = refl
-first-none (c ∷ cs) e = grind arith
+head_of-none : (cs : List Leg) → head_of cs ≡ None → length cs ≡ 0
+head_of-none [] e = refl
+head_of-none (c ∷ cs) e = grind arith
 
-no_candidates : (net : Net) (p : Delays) (l : List Leg) → head_of (candidates net p l) ≡ None → l ≡ []
-no_candidates net p [] e = refl
-no_candidates net p (y ∷ l) e = absurd (omega (arith, candidates-count net p (y ∷ l), first-none (candidates net p (y ∷ l)) e))
+candidates-none : (net : Net) (p : Delays) (l : List Leg) → head_of (candidates net p l) ≡ None → l ≡ []
+candidates-none net p [] e = refl
+candidates-none net p (y ∷ l) e = absurd (omega (arith, candidates-count net p (y ∷ l), head_of-none (candidates net p (y ∷ l)) e))
 
-or_next-open : (net : Net) (p : Delays) (l k : List Leg) (x : Leg) → head_of (candidates net p l) ≡ Some x → or_next l k ≡ l
-or_next-open net p [] k x e = grind arith
-or_next-open net p (y ∷ l) k x e = refl
+or_next-candidates : (net : Net) (p : Delays) (l k : List Leg) (x : Leg) → head_of (candidates net p l) ≡ Some x → or_next l k ≡ l
+or_next-candidates net p [] k x e = grind arith
+or_next-candidates net p (y ∷ l) k x e = refl
 
 module _ (count : ℕ) (ms : List Message) (rs : List Ranked) (k : ℕ) (net : Net) (p : Delays) (within : k ≤ count) where
   -- no leg of the bus is left to test
-  pub bus_full : head_of (candidates net p (filter (unranked rs) (net_legs ms k))) ≡ None →
+  pub first_open-full : head_of (candidates net p (filter (unranked rs) (net_legs ms k))) ≡ None →
       first_open rs (buses_from count ms k) ≡ first_open rs (buses_from count ms (k + 1))
-  bus_full e =
-      ap (first_open rs) (buses-more count ms k within)
-      ∙ ap (λ (l : List Leg). or_next l (first_open rs (buses_from count ms (k + 1)))) (no_candidates net p _ e)
+  first_open-full e =
+      ap (first_open rs) (buses_from-more count ms k within)
+      ∙ ap (λ (l : List Leg). or_next l (first_open rs (buses_from count ms (k + 1)))) (candidates-none net p _ e)
 
   -- one is
-  pub bus_open : (x : Leg) → head_of (candidates net p (filter (unranked rs) (net_legs ms k))) ≡ Some x →
+  pub first_open-here : (x : Leg) → head_of (candidates net p (filter (unranked rs) (net_legs ms k))) ≡ Some x →
       first_open rs (buses_from count ms k) ≡ filter (unranked rs) (net_legs ms k)
-  bus_open x e = ap (first_open rs) (buses-more count ms k within) ∙ or_next-open net p (filter (unranked rs) (net_legs ms k)) _ x e
+  first_open-here x e = ap (first_open rs) (buses_from-more count ms k within) ∙ or_next-candidates net p (filter (unranked rs) (net_legs ms k)) _ x e
 
-pub none_open : (count : ℕ) (ms : List Message) (rs : List Ranked) (k : ℕ) → count < k → first_open rs (buses_from count ms k) ≡ []
-none_open count ms rs k lt = ap (first_open rs) (buses-none count ms k lt)
+pub first_open-none : (count : ℕ) (ms : List Message) (rs : List Ranked) (k : ℕ) → count < k → first_open rs (buses_from count ms k) ≡ []
+first_open-none count ms rs k lt = ap (first_open rs) (buses_from-none count ms k lt)

@@ -28,7 +28,7 @@ use Rattle.search.proofs.Place.{was_open, placed_below}
 use Rattle.boards.specs.Nets.{net_legs, bus_numbers}
 use Rattle.boards.proofs.Buses.{buses-apart}
 use Rattle.planner.specs.Stages.{layout, buses_from, after_ranked}
-use Rattle.planner.proofs.NextBus.{open-its_bus, bus_full, bus_open, none_open}
+use Rattle.planner.proofs.NextBus.{open-its_bus, first_open-full, first_open-here, first_open-none}
 
 but_for-resume : (t : Bool) (rs : List Ranked) (o : Option Leg) (b : Stage) → but_for t b (resume rs o b) ≡ resume rs (cond t None o) b
 but_for-resume true rs o b = refl
@@ -51,20 +51,20 @@ module _ (count : ℕ) (ms : List Message) (rs : List Ranked) (k : placed (layou
   -- The first test above the ranked legs, where no bus before this one has an open leg: it is of a leg of this bus, or of a later one;
   -- past the last bus there is none.
   module _ (bus : ℕ) (so : first_open rs (layout count ms).buses ≡ first_open rs (buses_from count ms bus)) where
-    pub up_here : bus ≤ count → (x : Leg) →
+    pub upwards-here : bus ≤ count → (x : Leg) →
         Some x ≡ head_of (candidates (layout count ms) (stored rs) (filter (unranked rs) (net_legs ms bus))) →
         Some (testing rs x) ≡ Some (upwards (layout count ms) rs (place_of (layout count ms) rs).open')
-    up_here within x first =
-        let here = so ∙ bus_open count ms rs bus (layout count ms) (stored rs) within x (sym first) in
+    upwards-here within x first =
+        let here = so ∙ first_open-here count ms rs bus (layout count ms) (stored rs) within x (sym first) in
         ap (λ (w : Stage). Some w) (sym (upwards-found (filter (unranked rs) (net_legs ms bus)) x here (sym first)))
 
-    pub up_later : bus ≤ count → None ≡ head_of (candidates (layout count ms) (stored rs) (filter (unranked rs) (net_legs ms bus))) →
+    pub first_open-later : bus ≤ count → None ≡ head_of (candidates (layout count ms) (stored rs) (filter (unranked rs) (net_legs ms bus))) →
         first_open rs (layout count ms).buses ≡ first_open rs (buses_from count ms (bus + 1))
-    up_later within none = so ∙ bus_full count ms rs bus (layout count ms) (stored rs) within (sym none)
+    first_open-later within none = so ∙ first_open-full count ms rs bus (layout count ms) (stored rs) within (sym none)
 
-    pub up_past : count < bus → Some (complete rs) ≡ Some (upwards (layout count ms) rs (place_of (layout count ms) rs).open')
-    up_past past =
-        ap (λ (l : List Leg). Some (upwards (layout count ms) rs l)) (sym (open_on-board ∙ so ∙ none_open count ms rs bus past))
+    pub upwards-past : count < bus → Some (complete rs) ≡ Some (upwards (layout count ms) rs (place_of (layout count ms) rs).open')
+    upwards-past past =
+        ap (λ (l : List Leg). Some (upwards (layout count ms) rs l)) (sym (open_on-board ∙ so ∙ first_open-none count ms rs bus past))
 
   module _ (x : Leg) (on : has x (place_of (layout count ms) rs).open' ≡ true) where
     pub open-beside : first_open rs (layout count ms).buses ≡ filter (unranked rs) (net_legs ms x.bus)
@@ -80,10 +80,10 @@ module _ (count : ℕ) (ms : List Message) (rs : List Ranked) (k : placed (layou
     at-leg f = at-as_stored f (layout count ms) (buses-apart ms 1 count) rs k ∙ ap (f (stored rs)) open-beside
 
     -- x was tested, and does not fit
-    pub try_next : try_at (layout count ms) rs x None
+    pub try_at-next : try_at (layout count ms) rs x None
         ≡ resume rs (head_of (behind x (candidates (layout count ms) (stored rs) (filter (unranked rs) (net_legs ms x.bus)))))
         (retract (layout count ms) rs)
-    try_next = at-leg (λ p l. resume rs (head_of (behind x (candidates (layout count ms) p l))) (retract (layout count ms) rs))
+    try_at-next = at-leg (λ p l. resume rs (head_of (behind x (candidates (layout count ms) p l))) (retract (layout count ms) rs))
 
 -- the ranking of r is taken back
 pub retract-next : (count : ℕ) (ms : List Message) (r : Ranked) (rs : List Ranked) → placed (layout count ms) (r ∷ rs) ≡ true →

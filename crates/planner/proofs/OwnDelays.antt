@@ -13,6 +13,7 @@ use Rattle.search.proofs.Legs.{same-equal}
 use Rattle.boards.specs.Boards.{Board, message_of, rising_messages, rule_at, Keeps}
 use Rattle.boards.specs.Nets.{leg_at, leg_from, net_of}
 use Rattle.boards.proofs.BusLegs.{legs_rise, legs_of_messages}
+use Rattle.boards.proofs.RuleAt.{rule_at-keeps}
 use Rattle.planner.specs.Spots.{AtMost}
 
 -- ---------------------------------------------------------------- the rules
@@ -24,18 +25,6 @@ same-leg e = cc
 
 none-leg : {P : Type 0} (u : BusLeg) → ◌≡◌ {A = Option BusLeg} None (Some u) → P
 none-leg u e = let z : ◌≡◌ {A = ℕ} 0 1 = cc in absurd (omega arith)
-
-rule_bounded : (fs : List Meaning) → AllByRecursion Keeps fs → (k : ℕ) → Bounded (rule_at fs k)
-rule_bounded [] keeps k = λ legs n h leg d rises on e. no_delay d e
-rule_bounded (f ∷ fs) keeps zero = λ legs n h leg d rises on e. no_delay d e
-rule_bounded (f ∷ fs) keeps (suc zero) = keeps.0.bounded
-rule_bounded (f ∷ fs) keeps (suc (suc k)) = rule_bounded fs keeps.1 (suc k)
-
-rule_absent : (fs : List Meaning) → AllByRecursion Keeps fs → (k : ℕ) → Absent (rule_at fs k)
-rule_absent [] keeps k = λ legs n h rises off. refl
-rule_absent (f ∷ fs) keeps zero = λ legs n h rises off. refl
-rule_absent (f ∷ fs) keeps (suc zero) = keeps.0.absent
-rule_absent (f ∷ fs) keeps (suc (suc k)) = rule_absent fs keeps.1 (suc k)
 
 -- ---------------------------------------------------------------- a delay is one by the rule
 module _ (b : Board) (x : Leg) (d : ℕ) where
@@ -64,9 +53,9 @@ module _ (b : Board) (keeps : AllByRecursion Keeps b.rules) (rise : rising_messa
   bounded-by : (limit bus n d : ℕ) (h : ℕ → Bool) (o : Option BusLeg) → ((leg : BusLeg) → o ≡ Some leg → leg.message.deadline ≤ limit) → leg_of (legs_on b.messages bus) n ≡ o →
       rule_at b.rules bus (legs_on b.messages bus) n h ≡ Some d → d ≤ limit
   bounded-by limit bus n d h None own at e =
-      no_delay d (sym (rule_absent b.rules keeps bus (legs_on b.messages bus) n h (legs_rise b.messages bus rise) at) ∙ e)
+      no_delay d (sym ((rule_at-keeps b.rules keeps bus).absent (legs_on b.messages bus) n h (legs_rise b.messages bus rise) at) ∙ e)
   bounded-by limit bus n d h (Some leg) own at e =
-      omega (arith, own leg refl, rule_bounded b.rules keeps bus (legs_on b.messages bus) n h leg d (legs_rise b.messages bus rise) at e)
+      omega (arith, own leg refl, (rule_at-keeps b.rules keeps bus).bounded (legs_on b.messages bus) n h leg d (legs_rise b.messages bus rise) at e)
 
   limited : (limit bus n : ℕ) (o : Option BusLeg) → ((leg : BusLeg) → o ≡ Some leg → leg.message.deadline ≤ limit) → leg_of (legs_on b.messages bus) n ≡ o →
       (os : List (List Leg)) → AtMost limit (delays (net_of b) os (leg_at bus n))

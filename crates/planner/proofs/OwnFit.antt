@@ -1,8 +1,8 @@
 -- Whether a leg fits is told by its own message's pairs.
 use Rattle.std.proofs.Common.{◌≡◌, ℕ, Bool, true, false, cond, not, ◌||◌, Some, None, Option, refl, sym, ap, ◌∙◌}
 use Rattle.std.specs.Bool.{then_some}
+use Rattle.std.specs.List.{list_all}
 use Rattle.bus.specs.declared.message.Message.{Message}
-use Rattle.search.specs.Lists.{every}
 use Rattle.search.specs.Net.{Delays}
 use Rattle.search.specs.Deadlines.{met}
 use Rattle.search.specs.Walk.{counted, passes, fit_at}
@@ -14,10 +14,10 @@ then_some-cond : (r : Bool) (d : ℕ) → then_some r d ≡ cond r (Some d) None
 then_some-cond true d = refl
 then_some-cond false d = refl
 
-pub fit-own : (b : Board) (p : Delays) (m : Message) (bus : ℕ) → rising_messages b.messages ≡ true → message_of b.messages m.number ≡ Some m →
-    (o : Option ℕ) (d : ℕ) → Some d ≡ o → (r : Bool) → r ≡ every (passes (net_of b) p (leg_at bus m.number) d) (pairs_of m) →
+pub fit_at-own : (b : Board) (p : Delays) (m : Message) (bus : ℕ) → rising_messages b.messages ≡ true → message_of b.messages m.number ≡ Some m →
+    (o : Option ℕ) (d : ℕ) → Some d ≡ o → (r : Bool) → r ≡ list_all (passes (net_of b) p (leg_at bus m.number) d) (pairs_of m) →
     then_some r d ≡ fit_at (net_of b) p (leg_at bus m.number) o
-fit-own b p m bus rises here o d is r told =
+fit_at-own b p m bus rises here o d is r told =
     let x = leg_at bus m.number in
     then_some-cond r d
     ∙ ap (λ t. cond t (Some d) None)

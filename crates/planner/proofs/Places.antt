@@ -6,18 +6,18 @@ use Rattle.std.proofs.lemmas.Bool.Decides.{nat_tests}
 use Rattle.bus.specs.declared.message.Message.{Message}
 use Rattle.boards.specs.Boards.{message_of, rising_messages}
 use Rattle.planner.specs.Messages.{entered, place_of}
-use Rattle.planner.proofs.Entered.{free_room}
+use Rattle.planner.proofs.Entered.{entered-room}
 
 pub place_of-within : (ms : List Message) (n : ℕ) → place_of ms n ≤ length ms
 place_of-within [] n = omega arith
 place_of-within (x ∷ xs) n = grind (arith, nat_tests, place_of-within xs n)
 
 -- the message belongs at the place of its number
-inserted_at : (m : Message) (ms : List Message) → message_of ms m.number ≡ None → insert ms (place_of ms m.number) m ≡ entered m ms
-inserted_at m [] free = refl
-inserted_at m (x ∷ xs) free = grind (arith, nat_tests, inserted_at m xs)
+entered-inserted_at : (m : Message) (ms : List Message) → message_of ms m.number ≡ None → insert ms (place_of ms m.number) m ≡ entered m ms
+entered-inserted_at m [] free = refl
+entered-inserted_at m (x ∷ xs) free = grind (arith, nat_tests, entered-inserted_at m xs)
 
-pub inserted_entered : (m : Message) (ms after : List Message) (at : ℕ) (done : Bool) → rising_messages ms ≡ true → message_of ms m.number ≡ None →
+pub entered-inserted : (m : Message) (ms after : List Message) (at : ℕ) (done : Bool) → rising_messages ms ≡ true → message_of ms m.number ≡ None →
     at ≡ place_of ms m.number → (length ms < 64 → done ≡ true) → after ≡ cond done (insert ms at m) ms → after ≡ entered m ms
-inserted_entered m ms after at done rises free is room after_is =
-    after_is ∙ cond-true done _ _ (room (free_room m ms rises free)) ∙ ap (λ i. insert ms i m) is ∙ inserted_at m ms free
+entered-inserted m ms after at done rises free is room after_is =
+    after_is ∙ cond-true done _ _ (room (entered-room m ms rises free)) ∙ ap (λ i. insert ms i m) is ∙ entered-inserted_at m ms free

@@ -11,16 +11,16 @@ use Rattle.planner.specs.declared.stage.Stage.TheVariants.{Testing}
 use Rattle.planner.proofs.NextBus.{open-from_its_bus}
 use Rattle.planner.proofs.NextTests.{open_on-board}
 use Rattle.planner.proofs.Stands.{stands-open, stands-placed}
-use Rattle.planner.proofs.TakenBack.{ranked-more}
+use Rattle.planner.proofs.TakenBack.{ranked_of-more}
 
 -- all are the ranked legs with the one more, and they are seen so
 module _ (count : ℕ) (ms : List Message) (rs : List Ranked) (s : Spot) (h : stands count ms rs (Testing s) ≡ true) (d : ℕ)
     (seen all : List Ranked) (same : seen ≡ all) (more : all ≡ rs ++ record { bus = s.bus; message = s.message; delay = d } ∷ []) where
   latest : ranked_of seen ≡ record { leg = spot_leg s; delay = d } ∷ ranked_of rs
-  latest = ap ranked_of (same ∙ more) ∙ ranked-more rs (record { bus = s.bus; message = s.message; delay = d })
+  latest = ap ranked_of (same ∙ more) ∙ ranked_of-more rs (record { bus = s.bus; message = s.message; delay = d })
 
-  pub pushed_full : walk.first_open (ranked_of seen) (layout count ms).buses ≡ walk.first_open (ranked_of seen) (buses_from count ms s.bus)
-  pushed_full =
+  pub first_open-pushed : walk.first_open (ranked_of seen) (layout count ms).buses ≡ walk.first_open (ranked_of seen) (buses_from count ms s.bus)
+  first_open-pushed =
       let on = ap (has (spot_leg s)) (sym (open_on-board count ms (ranked_of rs) (stands-placed count ms rs s h))) ∙ stands-open count ms rs s h in
       subst (λ v. walk.first_open v (layout count ms).buses ≡ walk.first_open v (buses_from count ms s.bus)) (sym latest)
       (open-from_its_bus ms (ranked_of rs) count (record { leg = spot_leg s; delay = d }) (spot_leg s) on)

@@ -7,7 +7,7 @@ use Rattle.search.specs.Stored.{stored}
 use Rattle.boards.specs.Nets.{leg_at}
 use Rattle.planner.specs.Storage.{ranked_leg}
 use Rattle.planner.specs.declared.ranked.Ranked.{Ranked}
-use Rattle.planner.proofs.Mapped.{map-found}
+use Rattle.planner.proofs.Mapped.{option_map-cond}
 
 module _ (bus n : ℕ) where
   pub stored-finds : (rs : List Ranked) →
@@ -15,5 +15,5 @@ module _ (bus n : ℕ) where
   unfolding same
   stored-finds [] = refl
   stored-finds (r ∷ rs) =
-      map-found (λ (x : Ranked). x.delay) (eqb r.bus bus && eqb r.message n) r _
+      option_map-cond (λ (x : Ranked). x.delay) (eqb r.bus bus && eqb r.message n) r _
       ∙ ap (cond (eqb r.bus bus && eqb r.message n) (Some r.delay)) (stored-finds rs)

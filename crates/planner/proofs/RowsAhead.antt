@@ -13,7 +13,7 @@ use Rattle.boards.specs.Nets.{leg_at}
 use Rattle.planner.specs.Checks.{by_bus}
 use Rattle.planner.specs.Spots.{down_in, ahead}
 use Rattle.planner.specs.declared.rows.Spot.{Spot}
-use Rattle.planner.proofs.OrderSteps.{down_here, down_elsewhere}
+use Rattle.planner.proofs.OrderSteps.{down_in-here, down_in-elsewhere}
 use Rattle.planner.proofs.OrderTests.{has-reverse}
 
 -- ---------------------------------------------------------------- ahead
@@ -39,29 +39,29 @@ ahead-behind x y (z ∷ d) one h =
     ]
 
 -- ---------------------------------------------------------------- the rows of a bus
-pub down_bus : (rows : List Spot) (k bus n : ℕ) → has (leg_at bus n) (down_in rows k) ≡ true → bus ≡ k
+pub down_in-bus : (rows : List Spot) (k bus n : ℕ) → has (leg_at bus n) (down_in rows k) ≡ true → bus ≡ k
 unfolding same
-down_bus [] k bus n h = grind arith
-down_bus (r ∷ rows) k bus n h = grind (arith, nat_tests, down_bus rows k bus n)
+down_in-bus [] k bus n h = grind arith
+down_in-bus (r ∷ rows) k bus n h = grind (arith, nat_tests, down_in-bus rows k bus n)
 
-pub down_within : (low high : ℕ) (rows : List Spot) (bus n : ℕ) → by_bus low high rows ≡ true → has (leg_at bus n) (down_in rows bus) ≡ true → (low ≤ bus) × (bus ≤ high)
-down_within low high [] bus n by h = grind arith
-down_within low high (r ∷ rows) bus n by h =
+pub down_in-within : (low high : ℕ) (rows : List Spot) (bus n : ℕ) → by_bus low high rows ≡ true → has (leg_at bus n) (down_in rows bus) ≡ true → (low ≤ bus) × (bus ≤ high)
+down_in-within low high [] bus n by h = grind arith
+down_in-within low high (r ∷ rows) bus n by h =
     let rest : by_bus r.bus high rows ≡ true = grind (arith, by) in
-    grind (arith, nat_tests, down_within r.bus high rows bus n rest)
+    grind (arith, nat_tests, down_in-within r.bus high rows bus n rest)
 
 -- ---------------------------------------------------------------- the loop
 -- the number k is that of a message, whose leg is named ahead of that of message n
 unfoldable pub named_ahead : List Spot → ℕ → ℕ → ℕ → Bool
 named_ahead rows bus n k = inside numbers k && has (leg_at bus k) (ahead (leg_at bus n) (down_in rows bus))
 
-pub ahead-means : (rows : List Spot) (bus n k : ℕ) → named_ahead rows bus n k ≡ (inside numbers k && has (leg_at bus k) (ahead (leg_at bus n) (down_in rows bus)))
+pub named_ahead-means : (rows : List Spot) (bus n k : ℕ) → named_ahead rows bus n k ≡ (inside numbers k && has (leg_at bus k) (ahead (leg_at bus n) (down_in rows bus)))
 unfolding named_ahead
-ahead-means rows bus n k = refl
+named_ahead-means rows bus n k = refl
 
-pub ahead-elsewhere : (bus n : ℕ) (r : Spot) (rest : List Spot) → (r.bus ≡ bus → ⊥) → (k : ℕ) → named_ahead (r ∷ rest) bus n k ≡ named_ahead rest bus n k
+pub named_ahead-elsewhere : (bus n : ℕ) (r : Spot) (rest : List Spot) → (r.bus ≡ bus → ⊥) → (k : ℕ) → named_ahead (r ∷ rest) bus n k ≡ named_ahead rest bus n k
 unfolding named_ahead
-ahead-elsewhere bus n r rest away k = ap (λ d. inside numbers k && has (leg_at bus k) (ahead (leg_at bus n) d)) (down_elsewhere r rest bus away)
+named_ahead-elsewhere bus n r rest away k = ap (λ d. inside numbers k && has (leg_at bus k) (ahead (leg_at bus n) d)) (down_in-elsewhere r rest bus away)
 
 merged : (e b i j a : Bool) → (e ≡ true → i ≡ j) → ((j && e || b) || (i && a)) ≡ (b || (i && (e || a)))
 merged false b i true a h = refl
@@ -74,36 +74,36 @@ merged true false false true a h = absurd (true≢false (sym (h refl)))
 merged true false false false a h = refl
 
 module _ (bus n : ℕ) (r : Spot) (rest : List Spot) (here : r.bus ≡ bus) where
-  pub row_found : r.message ≡ n → has (leg_at bus n) (down_in (r ∷ rest) bus) ≡ true
+  pub has-down_in_found : r.message ≡ n → has (leg_at bus n) (down_in (r ∷ rest) bus) ≡ true
   unfolding same
-  row_found e = ap (has (leg_at bus n)) (down_here r rest bus here) ∙ grind (arith, nat_tests)
+  has-down_in_found e = ap (has (leg_at bus n)) (down_in-here r rest bus here) ∙ grind (arith, nat_tests)
 
-  pub ahead_none : r.message ≡ n → (k : ℕ) → named_ahead (r ∷ rest) bus n k ≡ false
+  pub named_ahead-none : r.message ≡ n → (k : ℕ) → named_ahead (r ∷ rest) bus n k ≡ false
   unfolding same named_ahead
-  ahead_none e k = ap (λ d. inside numbers k && has (leg_at bus k) (ahead (leg_at bus n) d)) (down_here r rest bus here) ∙ and_right (inside numbers k) _ (grind (arith, nat_tests))
+  named_ahead-none e k = ap (λ d. inside numbers k && has (leg_at bus k) (ahead (leg_at bus n) d)) (down_in-here r rest bus here) ∙ and_right (inside numbers k) _ (grind (arith, nat_tests))
 
-  pub row_other : (r.message ≡ n → ⊥) → has (leg_at bus n) (down_in (r ∷ rest) bus) ≡ has (leg_at bus n) (down_in rest bus)
+  pub has-down_in_other : (r.message ≡ n → ⊥) → has (leg_at bus n) (down_in (r ∷ rest) bus) ≡ has (leg_at bus n) (down_in rest bus)
   unfolding same
-  row_other ne = ap (has (leg_at bus n)) (down_here r rest bus here) ∙ grind (arith, nat_tests)
+  has-down_in_other ne = ap (has (leg_at bus n)) (down_in-here r rest bus here) ∙ grind (arith, nat_tests)
 
-  legs_apart : (r.message ≡ n → ⊥) → same (leg_at bus n) (leg_at bus r.message) ≡ false
+  same-apart : (r.message ≡ n → ⊥) → same (leg_at bus n) (leg_at bus r.message) ≡ false
   unfolding same
-  legs_apart ne = grind (arith, nat_tests)
+  same-apart ne = grind (arith, nat_tests)
 
-  same_number : (k : ℕ) → same (leg_at bus k) (leg_at bus r.message) ≡ eqb k r.message
+  same-number : (k : ℕ) → same (leg_at bus k) (leg_at bus r.message) ≡ eqb k r.message
   unfolding same
-  same_number k = grind (arith, nat_tests)
+  same-number k = grind (arith, nat_tests)
 
-  pub ahead_more : (r.message ≡ n → ⊥) → (bits more : ℕ) → ((k : ℕ) → member more k ≡ (inside numbers r.message && eqb k r.message || member bits k)) →
+  pub named_ahead-more : (r.message ≡ n → ⊥) → (bits more : ℕ) → ((k : ℕ) → member more k ≡ (inside numbers r.message && eqb k r.message || member bits k)) →
       (k : ℕ) → (member more k || named_ahead rest bus n k) ≡ (member bits k || named_ahead (r ∷ rest) bus n k)
   unfolding named_ahead
-  ahead_more ne bits more one k =
+  named_ahead-more ne bits more one k =
       let d = down_in rest bus in
       let a = has (leg_at bus k) (ahead (leg_at bus n) d) in
       let now : has (leg_at bus k) (ahead (leg_at bus n) (down_in (r ∷ rest) bus)) ≡ (eqb k r.message || a) =
-      ap (λ l. has (leg_at bus k) (ahead (leg_at bus n) l)) (down_here r rest bus here)
-      ∙ ap (λ t. has (leg_at bus k) (cond t [] (leg_at bus r.message ∷ ahead (leg_at bus n) d))) (legs_apart ne)
-      ∙ ap (λ t. t || a) (same_number k)
+      ap (λ l. has (leg_at bus k) (ahead (leg_at bus n) l)) (down_in-here r rest bus here)
+      ∙ ap (λ t. has (leg_at bus k) (cond t [] (leg_at bus r.message ∷ ahead (leg_at bus n) d))) (same-apart ne)
+      ∙ ap (λ t. t || a) (same-number k)
       in
       ap (λ t. t || (inside numbers k && a)) (one k)
       ∙ merged (eqb k r.message) (member bits k) (inside numbers k) (inside numbers r.message) a (λ e. ap (inside numbers) (eqb-true k r.message e))

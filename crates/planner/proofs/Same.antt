@@ -11,11 +11,11 @@ unfolding same
 same-on bus m n = grind (arith, nat_tests)
 
 -- of one message
-pub same_of : (a b n : ℕ) → same (leg_at a n) (leg_at b n) ≡ eqb a b
+pub same-bus : (a b n : ℕ) → same (leg_at a n) (leg_at b n) ≡ eqb a b
 unfolding same
-same_of a b n = grind (arith, nat_tests)
+same-bus a b n = grind (arith, nat_tests)
 
--- the ends of a pair, for a leg of its message
-pub ends : (m : Message) (bus k : ℕ) → touches (leg_at bus m.number) (pair_to m k) ≡ (eqb bus m.source || eqb bus k)
+-- the touches-pair_to of a pair, for a leg of its message
+pub touches-pair_to : (m : Message) (bus k : ℕ) → touches (leg_at bus m.number) (pair_to m k) ≡ (eqb bus m.source || eqb bus k)
 unfolding same
-ends m bus k = grind (arith, nat_tests)
+touches-pair_to m bus k = grind (arith, nat_tests)

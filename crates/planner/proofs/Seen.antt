@@ -1,11 +1,10 @@
 -- The legs of a bus that are not yet in a set of seen messages.
 use Rattle.std.proofs.Common.{◌≡◌, ℕ, true, false, not, ◌&&◌, ◌||◌, eqb, List, [], ◌∷◌, map, refl, arith}
-use Rattle.std.specs.List.{filter}
+use Rattle.std.specs.List.{list_all, filter}
 use Rattle.std.proofs.lemmas.Bool.Decides.{nat_tests}
 use Rattle.bus.specs.Numbered.{member}
 use Rattle.bus.specs.Range.{inside, numbers}
 use Rattle.bus.specs.declared.leg.Leg.{Leg as BusLeg}
-use Rattle.search.specs.Lists.{every}
 use Rattle.search.specs.Net.{Leg, same, has, less}
 use Rattle.search.specs.Stored.{is_empty}
 use Rattle.search.proofs.Legs.{has_kept}
@@ -31,7 +30,7 @@ unfolding unseen
 unseen-all bits none [] = refl
 unseen-all bits none (x ∷ l) = grind (arith, none x.message, unseen-all bits none l)
 
-pub unseen-none : (bits : ℕ) (l : List Leg) → is_empty (unseen bits l) ≡ every (λ x. member bits x.message) l
+pub unseen-none : (bits : ℕ) (l : List Leg) → is_empty (unseen bits l) ≡ list_all (λ x. member bits x.message) l
 unfolding unseen
 unseen-none bits [] = refl
 unseen-none bits (x ∷ l) = grind (arith, unseen-none bits l)

@@ -18,10 +18,10 @@ use Rattle.planner.specs.declared.seen_legs.Seen.{Seen}
 use Rattle.planner.proofs.Written.{written, written-push}
 
 -- ---------------------------------------------------------------- one leg more is seen
-pub sees_more : (bus m : ℕ) (o : List Leg) (s r : Seen) → inside numbers m ≡ true → r.count ≡ s.count + 1 →
+pub Sees-more : (bus m : ℕ) (o : List Leg) (s r : Seen) → inside numbers m ≡ true → r.count ≡ s.count + 1 →
     ((k : ℕ) → member r.above.bits k ≡ (inside numbers m && eqb k m || member s.above.bits k)) → Sees bus o s → Sees bus (leg_at bus m ∷ o) r
 unfolding same
-sees_more bus m o s r within count above h =
+Sees-more bus m o s r within count above h =
     let here : eqb bus bus ≡ true = eq-eqb bus bus refl in
     record {
       count = omega (arith, h.count);
@@ -29,8 +29,8 @@ sees_more bus m o s r within count above h =
     }
 
 -- a test decides which legs were seen
-pub sees-where : (t u : Bool) (bus : ℕ) (x o : List Leg) (s : Seen) → t ≡ u → Sees bus (cond u x o) s → Sees bus (cond t x o) s
-sees-where t u bus x o s e h = subst (λ v. Sees bus (cond v x o) s) (sym e) h
+pub Sees-where : (t u : Bool) (bus : ℕ) (x o : List Leg) (s : Seen) → t ≡ u → Sees bus (cond u x o) s → Sees bus (cond t x o) s
+Sees-where t u bus x o s e h = subst (λ v. Sees bus (cond v x o) s) (sym e) h
 
 -- ---------------------------------------------------------------- a loop that goes over the ranked legs from the end
 -- the legs that came so far, as they are stored
@@ -49,62 +49,62 @@ pub came-all : (rs left gone : List Ranked) → length left ≡ 0 → left ++ go
 came-all rs left gone e all = ap (λ l. l ++ gone) (sym (nil_from_length left e)) ∙ all
 
 -- ---------------------------------------------------------------- the order of a bus
-order_behind : (a b : List Ranked) (bus : ℕ) → length (order_on b bus) ≤ length (order_on (a ++ b) bus)
-order_behind [] b bus = omega arith
-order_behind (r ∷ a) b bus = grind (arith, order_behind a b bus)
+order_on-behind : (a b : List Ranked) (bus : ℕ) → length (order_on b bus) ≤ length (order_on (a ++ b) bus)
+order_on-behind [] b bus = omega arith
+order_on-behind (r ∷ a) b bus = grind (arith, order_on-behind a b bus)
 
 -- a leg of the bus comes below those behind it
-pub order-longer : (rs a : List Ranked) (r : Ranked) (b : List Ranked) (bus : ℕ) → a ++ (r ∷ b) ≡ rs → eqb r.bus bus ≡ true →
+pub order_on-longer : (rs a : List Ranked) (r : Ranked) (b : List Ranked) (bus : ℕ) → a ++ (r ∷ b) ≡ rs → eqb r.bus bus ≡ true →
     length (order_on b bus) < length (order_on rs bus)
-order-longer rs a r b bus all on =
+order_on-longer rs a r b bus all on =
     omega (
       arith,
       ap length (cond-true (eqb r.bus bus) (leg_at bus r.message ∷ order_on b bus) (order_on b bus) on),
-      order_behind a (r ∷ b) bus,
+      order_on-behind a (r ∷ b) bus,
       ap (λ l. length (order_on l bus)) all,
     )
 
 -- ---------------------------------------------------------------- rows
-pub length_rows : (net : Net) (bus : ℕ) (o : List Leg) → length (rows_in net bus o) ≡ length o
-length_rows net bus [] = refl
-length_rows net bus (x ∷ o) = simp length_push (omega (arith, length_rows net bus o))
+pub length-rows_in : (net : Net) (bus : ℕ) (o : List Leg) → length (rows_in net bus o) ≡ length o
+length-rows_in net bus [] = refl
+length-rows_in net bus (x ∷ o) = simp length_push (omega (arith, length-rows_in net bus o))
 
 module _ (rules : List Meaning) (gateway : ℕ) (ms : List Message) (bus : ℕ) where
   abbrev pub rows_here : List Leg → List Row
   rows_here o = rows_in (net_of (board_of rules gateway ms)) bus o
 
   -- the row below the legs seen is that of the order with one leg more
-  pub row_seen : (n : ℕ) (o : List Leg) (s : Seen) → Sees bus o s →
+  pub rows_in-seen : (n : ℕ) (o : List Leg) (s : Seen) → Sees bus o s →
       rows_here (leg_at bus n ∷ o) ≡ rows_here o ++ row_below rules ms bus n s.count (member s.above.bits) ∷ []
-  row_seen n o s h =
+  rows_in-seen n o s h =
       let e : suc (length o) ≡ s.count + 1 = omega (arith, h.count) in
       λ i. rows_here o ++ (record { bus = bus; rank = e i; message = n; delay = unwrap_or (rule_at rules bus (legs_on ms bus) n (λ k. sym (h.above k) i)) 0 }) ∷ []
 
-  rows-longer : (n : ℕ) (o : List Leg) (s : Seen) (at : ℕ) (rows₀ rows : List Row) → Sees bus o s → at + length o < length rows₀ →
+  written-rows_in : (n : ℕ) (o : List Leg) (s : Seen) (at : ℕ) (rows₀ rows : List Row) → Sees bus o s → at + length o < length rows₀ →
       rows ≡ written at (rows_here o) rows₀ →
       set rows (at + s.count) (row_below rules ms bus n s.count (member s.above.bits)) ≡ written at (rows_here (leg_at bus n ∷ o)) rows₀
-  rows-longer n o s at rows₀ rows h room was =
+  written-rows_in n o s at rows₀ rows h room was =
       let row = row_below rules ms bus n s.count (member s.above.bits) in
-      let long = length_rows (net_of (board_of rules gateway ms)) bus o in
+      let long = length-rows_in (net_of (board_of rules gateway ms)) bus o in
       let e : at + s.count ≡ at + length (rows_here o) = omega (arith, h.count, long) in
       ap (λ l. set l (at + s.count) row) was
       ∙ ap (λ k. set (written at (rows_here o) rows₀) k row) e
       ∙ written-push at (rows_here o) rows₀ row (omega (arith, long))
-      ∙ ap (λ l. written at l rows₀) (sym (row_seen n o s h))
+      ∙ ap (λ l. written at l rows₀) (sym (rows_in-seen n o s h))
 
   -- one turn of a loop that writes the rows
-  pub rows_step : (t : Bool) (n : ℕ) (o o' : List Leg) (s : Seen) (at : ℕ) (rows₀ rows rows' : List Row) → Sees bus o s →
+  pub written-rows_step : (t : Bool) (n : ℕ) (o o' : List Leg) (s : Seen) (at : ℕ) (rows₀ rows rows' : List Row) → Sees bus o s →
       (t ≡ true → at + length o < length rows₀) → o' ≡ cond t (leg_at bus n ∷ o) o → rows ≡ written at (rows_here o) rows₀ →
       rows' ≡ cond t (set rows (at + s.count) (row_below rules ms bus n s.count (member s.above.bits))) rows →
       rows' ≡ written at (rows_here o') rows₀
-  rows_step true n o o' s at rows₀ rows rows' h room next was is =
-      is ∙ rows-longer n o s at rows₀ rows h (room refl) was ∙ ap (λ l. written at (rows_here l) rows₀) (sym next)
-  rows_step false n o o' s at rows₀ rows rows' h room next was is = is ∙ was ∙ ap (λ l. written at (rows_here l) rows₀) (sym next)
+  written-rows_step true n o o' s at rows₀ rows rows' h room next was is =
+      is ∙ written-rows_in n o s at rows₀ rows h (room refl) was ∙ ap (λ l. written at (rows_here l) rows₀) (sym next)
+  written-rows_step false n o o' s at rows₀ rows rows' h room next was is = is ∙ was ∙ ap (λ l. written at (rows_here l) rows₀) (sym next)
 
   -- all legs were seen
-  pub rows-done : (o all : List Leg) (count at : ℕ) (rows₀ rows : List Row) → o ≡ all → count ≡ length o → rows ≡ written at (rows_here o) rows₀ →
+  pub written-rows_done : (o all : List Leg) (count at : ℕ) (rows₀ rows : List Row) → o ≡ all → count ≡ length o → rows ≡ written at (rows_here o) rows₀ →
       rows ≡ take at rows₀ ++ (rows_here all ++ drop (at + count) rows₀)
-  rows-done o all count at rows₀ rows e long was =
+  written-rows_done o all count at rows₀ rows e long was =
       was
-      ∙ ap (λ n. take at rows₀ ++ (rows_here o ++ drop (at + n) rows₀)) (length_rows (net_of (board_of rules gateway ms)) bus o ∙ sym long)
+      ∙ ap (λ n. take at rows₀ ++ (rows_here o ++ drop (at + n) rows₀)) (length-rows_in (net_of (board_of rules gateway ms)) bus o ∙ sym long)
       ∙ ap (λ l. take at rows₀ ++ (rows_here l ++ drop (at + count) rows₀)) e

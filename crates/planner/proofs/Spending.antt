@@ -7,26 +7,26 @@ use Rattle.search.specs.Walk.{Walked}
 use Rattle.planner.specs.Standing.{end_of, progress_of}
 use Rattle.planner.specs.declared.progress.Progress.TheVariants.{Nothing, GoingOn}
 
-pub after_more : (n k : ℕ) (w : Walked) → left_after k (left_after n w) ≡ left_after (n + k) w
-after_more n k w =
+pub left_after-more : (n k : ℕ) (w : Walked) → left_after k (left_after n w) ≡ left_after (n + k) w
+left_after-more n k w =
     let e : w.tries - min n w.tries - min k (w.tries - min n w.tries) ≡ w.tries - min (n + k) w.tries = omega arith in
     λ i. record { tries = e i; outcome = w.outcome }
 
 -- after n tries and then k
-pub stands_after : (n k : ℕ) (w : Walked) → progress_of (left_after k (left_after n w)) ≡ cond (leb w.tries (n + k)) (end_of w.outcome) GoingOn
-stands_after n k w =
+pub progress_of-left_after : (n k : ℕ) (w : Walked) → progress_of (left_after k (left_after n w)) ≡ cond (leb w.tries (n + k)) (end_of w.outcome) GoingOn
+progress_of-left_after n k w =
     let e : eqb (w.tries - min n w.tries - min k (w.tries - min n w.tries)) 0 ≡ leb w.tries (n + k) = grind (arith, nat_tests) in
     ap (λ t. cond t (end_of w.outcome) GoingOn) e
 
-pub made_after : (n k : ℕ) (w : Walked) → min k (left_after n w).tries ≡ min (n + k) w.tries - min n w.tries
-made_after n k w = omega arith
+pub left_after-tries : (n k : ℕ) (w : Walked) → min k (left_after n w).tries ≡ min (n + k) w.tries - min n w.tries
+left_after-tries n k w = omega arith
 
 -- which end it was
-pub nothing_is_none : (t : Bool) (o : Option (List (List Leg))) → cond t (end_of o) GoingOn ≡ Nothing → o ≡ None
-nothing_is_none true None e = refl
-nothing_is_none true (Some os) e = let z : ◌≡◌ {A = ℕ} 0 1 = cc in absurd (omega arith)
-nothing_is_none false o e = let z : ◌≡◌ {A = ℕ} 0 1 = cc in absurd (omega arith)
+pub end_of-nothing : (t : Bool) (o : Option (List (List Leg))) → cond t (end_of o) GoingOn ≡ Nothing → o ≡ None
+end_of-nothing true None e = refl
+end_of-nothing true (Some os) e = absurd (cc)
+end_of-nothing false o e = absurd (cc)
 
-pub end_is_no_going_on : (o : Option (List (List Leg))) → end_of o ≡ GoingOn → ⊥
-end_is_no_going_on None e = let z : ◌≡◌ {A = ℕ} 0 1 = cc in omega arith
-end_is_no_going_on (Some os) e = let z : ◌≡◌ {A = ℕ} 0 1 = cc in omega arith
+pub end_of-not_going_on : (o : Option (List (List Leg))) → end_of o ≡ GoingOn → ⊥
+end_of-not_going_on None e = cc
+end_of-not_going_on (Some os) e = cc

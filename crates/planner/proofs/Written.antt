@@ -6,8 +6,8 @@ module _ {X : Type 0} where
   abbrev pub written : ℕ → List X → List X → List X
   written at new xs = take at xs ++ (new ++ drop (at + length new) xs)
 
-  pub written_none : (at : ℕ) (xs : List X) → xs ≡ written at [] xs
-  written_none at xs = sym (take-append-drop at xs) ∙ ap (λ n. take at xs ++ drop n xs) (sym (add-zero at))
+  pub written-none : (at : ℕ) (xs : List X) → xs ≡ written at [] xs
+  written-none at xs = sym (take-append-drop at xs) ∙ ap (λ n. take at xs ++ drop n xs) (sym (add-zero at))
 
   -- one more behind them
   pub written-push : (at : ℕ) (new xs : List X) (y : X) → at + length new < length xs →

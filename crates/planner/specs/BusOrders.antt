@@ -5,7 +5,7 @@ use Rattle.bus.specs.Legs.{legs_on}
 use Rattle.bus.specs.Numbered.{member}
 use Rattle.bus.specs.Rules.{Meaning}
 use Rattle.bus.specs.declared.message.Message.{Message}
-use Rattle.search.specs.Lists.{every}
+use Rattle.std.specs.List.{list_all}
 use Rattle.search.specs.Net.{Leg, has}
 use Rattle.boards.specs.Boards.{rule_at}
 use Rattle.boards.specs.Nets.{leg_at, net_legs}
@@ -19,7 +19,7 @@ leg_of_rank r = leg_at r.bus r.message
 
 -- each ranked leg is a leg of its bus
 abbrev pub are_legs : List Message → List Ranked → Bool
-are_legs ms rs = every (λ r. has (leg_of_rank r) (net_legs ms r.bus)) rs
+are_legs ms rs = list_all (λ r. has (leg_of_rank r) (net_legs ms r.bus)) rs
 
 -- the ranked legs of a bus, from the lowest rank up
 abbrev pub order_on : List Ranked → ℕ → List Leg

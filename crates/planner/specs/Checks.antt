@@ -1,8 +1,7 @@
 -- What check reads and shows: orders made by hand, and the margin of each local message and each pair.
 use Rattle.std.specs.Prelude.{◌≡◌, ℕ, ◌+◌, Bool, true, false, cond, not, ◌&&◌, List, [], ◌∷◌, map, reverse, length, pos, negsuc, ◌-ℤ◌, is_some, Some, None, Option, int_lt, nat_eq, nat_le, nat_lt}
-use Rattle.std.specs.List.{flat_map, filter}
+use Rattle.std.specs.List.{list_all, flat_map, filter}
 use Rattle.bus.specs.declared.message.Message.{Message}
-use Rattle.search.specs.Lists.{every}
 use Rattle.search.specs.Net.{Leg, Net, has, less}
 use Rattle.search.specs.Deadlines.{delays, met, Meets}
 use Rattle.search.specs.Stored.{is_empty}
@@ -30,7 +29,7 @@ is_order (x ∷ o) l = has x l && is_order o (less x l)
 
 -- the rows name every leg of so many buses with these messages exactly once, by bus
 abbrev pub named : ℕ → List Message → List Spot → Bool
-named count ms rows = by_bus 1 count rows && every (λ bus. is_order (order_in rows bus) (net_legs ms bus)) (bus_numbers count)
+named count ms rows = by_bus 1 count rows && list_all (λ bus. is_order (order_in rows bus) (net_legs ms bus)) (bus_numbers count)
 
 -- the delay of a pair: source delay + gateway time + destination delay; over where one of them is
 abbrev pub across : ℕ → Option ℕ → Option ℕ → Option ℕ
@@ -55,7 +54,7 @@ margin_rows b os = flat_map (margins_of (net_of b) os) b.messages
 
 -- every local message and every pair is met
 abbrev pub all_met : Net → List (List Leg) → Bool
-all_met net os = every (λ x. is_some (delays net os x)) net.locals && every (met net (delays net os)) net.pairs
+all_met net os = list_all (λ x. is_some (delays net os x)) net.locals && list_all (met net (delays net os)) net.pairs
 
 -- ---------------------------------------------------------------- what the margins tell
 -- a delay is late where it is over, or passes the deadline
@@ -76,7 +75,7 @@ MarginsAsMany = (b : Board) (os : List (List Leg)) → length (margin_rows b os)
 
 -- all is met exactly where no margin is below zero
 abbrev pub MetWhereNoneIsBelow : Type 0
-MetWhereNoneIsBelow = (b : Board) → Sound b → (os : List (List Leg)) → every (λ r. not (below_zero r)) (margin_rows b os) ≡ all_met (net_of b) os
+MetWhereNoneIsBelow = (b : Board) → Sound b → (os : List (List Leg)) → list_all (λ r. not (below_zero r)) (margin_rows b os) ≡ all_met (net_of b) os
 
 -- and exactly where the orders that the rows name meet the net
 abbrev pub MetWhereOrdersMeet : Type 0

@@ -5,7 +5,7 @@ use Rattle.bus.specs.Entries.{Holds}
 use Rattle.bus.specs.declared.entry.Entry.{Entry}
 use Rattle.bus.specs.declared.message.Message.{Message}
 use Rattle.bus.specs.declared.refusal.Refusal.{Refusal}
-use Rattle.search.specs.Lists.{every}
+use Rattle.std.specs.List.{list_all}
 use Rattle.search.specs.Net.{Leg}
 use Rattle.search.specs.Bound.{bound, local_bound}
 use Rattle.search.specs.Deadlines.{Meets}
@@ -156,7 +156,7 @@ pub record TryLaw (b : Board) (spent n : ℕ) (p : Progress) (k : ℕ) : Type 0 
   pub none : p ≡ Nothing → (os : List (List Leg)) → Meets (net_of b) os → ⊥
   -- once the sum is at least the bound, the walk has ended; where no message crosses, n(n+1)/2 added over the buses is enough
   pub ends : bound (net_of b).buses ≤ spent + n → p ≢ GoingOn
-  pub ends_local : every is_local b.messages ≡ true → local_bound (net_of b).buses ≤ spent + n → p ≢ GoingOn
+  pub ends_local : list_all is_local b.messages ≡ true → local_bound (net_of b).buses ≤ spent + n → p ≢ GoingOn
 
 abbrev pub TriedLaw : Board → ℕ → ℕ → Answer → Type 0
 TriedLaw b spent n done = Unit {0}

@@ -1,5 +1,5 @@
 -- How far the walk has come by what the board stores, as the mathematics of the walk has it. No public contract cites this file.
-use Rattle.std.specs.Prelude.{◌≡◌, ℕ, ◌+◌, ◌-◌, Bool, true, false, cond, List, [], map, Some, None, Option}
+use Rattle.std.specs.Prelude.{◌≡◌, codes, ℕ, ◌+◌, ◌-◌, Bool, true, false, cond, List, [], map, Some, None, Option}
 use Rattle.std.specs.List.{flat_map}
 use Rattle.bus.specs.declared.message.Message.{Message}
 use Rattle.search.specs.Net.{Leg, Net}
@@ -63,6 +63,12 @@ progress_by Start = GoingOn
 progress_by (Testing s) = GoingOn
 progress_by Complete = Found
 progress_by Exhausted = Nothing
+
+-- how it is printed
+abbrev pub progress_said : Progress → List ℕ
+progress_said Found = codes "found"
+progress_said Nothing = codes "none"
+progress_said GoingOn = codes "going on"
 
 abbrev pub is_complete : Stage → Bool
 is_complete Start = false

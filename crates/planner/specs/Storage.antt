@@ -1,9 +1,8 @@
 -- What the board stores of its walk, as the mathematics of the walk has it. No public contract cites this file.
 use Rattle.std.specs.Prelude.{ℕ, Bool, cond, not, ◌&&◌, List, map, reverse, is_some, Option, nat_lt}
-use Rattle.std.specs.List.{flat_map, filter}
+use Rattle.std.specs.List.{list_all, flat_map, filter}
 use Rattle.bus.specs.Legs.{leg_on}
 use Rattle.bus.specs.declared.message.Message.{Message}
-use Rattle.search.specs.Lists.{every}
 use Rattle.search.specs.Net.{Leg, Pair}
 use Rattle.search.specs.Stored as walk
 use Rattle.search.specs.Walk.{partnered}
@@ -28,7 +27,7 @@ is_open rs bus m = is_some (leg_on m bus) && walk.unranked (ranked_of rs) (leg_a
 -- The readiness of a leg is b: by the pairs of a list, as those of all messages, or of the leg's own message.
 abbrev pub ready_is : Bool → List Ranked → List Pair → Leg → Bool
 ready_is b rs prs x =
-    let is_ready = every (partnered (walk.stored (ranked_of rs)) x) prs in
+    let is_ready = list_all (partnered (walk.stored (ranked_of rs)) x) prs in
     cond b is_ready (not is_ready)
 
 -- the legs of the messages with numbers above n

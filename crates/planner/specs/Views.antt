@@ -1,5 +1,5 @@
 -- A board as callers see it: where it stands.
-use Rattle.std.specs.Prelude.{◌≡◌, ℕ, Bool, List, take, drop, Ok, Err, vec_items, Result}
+use Rattle.std.specs.Prelude.{◌≡◌, ℕ, Bool, not, ◌&&◌, List, take, drop, Ok, Err, vec_items, Result}
 use Rattle.bus.specs.Rules.{Meaning}
 use Rattle.bus.specs.declared.refusal.Refusal.{Refusal}
 use Rattle.search.specs.Stored as walk
@@ -8,7 +8,8 @@ use Rattle.boards.specs.Nets.{net_of}
 use Rattle.planner.specs.Logs.{Answer, done, refused, tried, looked, listed, checked}
 use Rattle.planner.specs.Networks.{board_on}
 use Rattle.planner.specs.Standing.{Standing}
-use Rattle.planner.specs.Stages.{stage_of}
+use Rattle.planner.specs.Refusing.{is_none}
+use Rattle.planner.specs.Stages.{is_complete, stage_of}
 use Rattle.planner.specs.declared.board.Board.{Board}
 use Rattle.planner.specs.declared.progress.Tried.{Tried}
 use Rattle.planner.specs.declared.rows.Margin.{Margin}
@@ -22,6 +23,10 @@ abbrev pub standing : {S : Type 0} → (S → Meaning) → Board S → Standing
 standing f b =
     let net = net_of (board_in f b) in
     record { board = board_in f b; left = walk.left net (stage_of net (vec_items b.walk.ranked) b.walk.stage) }
+
+-- the walk has ended with found
+abbrev pub has_found : {S : Type 0} → Board S → Bool
+has_found b = not (is_none b.network.table.messages.items) && is_complete b.walk.stage
 
 -- what enter and withdraw answer, as a log has it
 abbrev pub changed : Result (Unit {0}) Refusal → Answer

@@ -2,7 +2,7 @@
 ghost use Rattle.std.specs.Prelude.{◌≡◌, ◌+◌, ◌-◌, ◌^◌, ◌<◌, ◌≤◌, ◌&&◌, ◌||◌, Some, ◌==◌, nat_le};
 ghost use Rattle.bus.specs.Legs.{legs_on};
 ghost use Rattle.bus.specs.Numbered.{member};
-ghost use Rattle.search.specs.Lists.{every};
+ghost use Rattle.std.specs.List.{list_all};
 ghost use Rattle.search.specs.Stored.{stored};
 ghost use Rattle.search.specs.Walk.{fit_at, passes};
 ghost use Rattle.boards.specs.Boards.{message_of, rule_at};
@@ -50,7 +50,7 @@ impl<'a, R: BusRule> Network<'a, R> {
     fn least_delay(&self, ranked: &[Ranked], bus: u8, number: u8) -> Option<u64>
         ensures { result ≡ least_of (rules_of R.BusRule.answer self.now) self.now.table.messages.items (stored (ranked_of ranked.now)) (leg_at bus number) }
     {
-        // A match: the proof does not learn here what a closure under `or_else` returns.
+        // A match: in a method over any rule, the proof does not learn what a closure under `or_else` returns.
         match delay_of(ranked, bus, number) {
             Some(delay) => Some(delay),
             None => self.delay_on(bus, number, LegSet::empty()),
@@ -73,6 +73,7 @@ impl<'a, R: BusRule> Network<'a, R> {
             return true;
         }
         let partner = partner_bus(message, bus, destination);
+        // Where the other leg can have no delay, this one fits at no rank that is tested now.
         let Some(least) = self.least_delay(ranked, partner, message.number) else {
             return false;
         };
@@ -81,7 +82,7 @@ impl<'a, R: BusRule> Network<'a, R> {
 
     // Whether the pairs of the message's leg on the bus are in time while it has the delay.
     fn pairs_pass(&self, ranked: &[Ranked], message: Message, bus: u8, delay: u64) -> bool
-        ensures { result ≡ every (passes (net_on R.BusRule.answer self.now) (stored (ranked_of ranked.now)) (leg_at bus message.number) delay) (pairs_of message) }
+        ensures { result ≡ list_all (passes (net_on R.BusRule.answer self.now) (stored (ranked_of ranked.now)) (leg_at bus message.number) delay) (pairs_of message) }
     {
         (1..=8).all(|destination| self.pair_passes(ranked, message, bus, delay, destination))
     }

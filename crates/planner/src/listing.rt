@@ -19,8 +19,8 @@ use bus::rule::BusRule;
 
 impl Seen {
     // Before the first leg.
-    fn none(bus: u8) -> Seen
-        ensures { Sees bus [] result }
+    fn none() -> Seen
+        ensures { (bus : ℕ) → Sees bus [] result }
     {
         Seen {
             count: 0,
@@ -73,7 +73,8 @@ impl<'b, 'a, R: BusRule> Found<'b, 'a, R> {
         ensures end { result ≡ at + length (order_on self.now.ranked.now bus) }
         ensures rows { rows.new ≡ take at rows.old ++ (rows_in (net_on R.BusRule.answer self.now.network.now) bus (order_on self.now.ranked.now bus) ++ drop result rows.old) }
     {
-        let mut seen = Seen::none(bus);
+        // A loop: in a method over any rule, the check fails at a `for` over a chain with a closure.
+        let mut seen = Seen::none();
         for leg in self.ranked.iter().rev() {
             self.write_leg(*leg, bus, seen, rows, at);
             seen = seen.with(*leg, bus);
@@ -99,7 +100,8 @@ impl<'b, 'a, R: BusRule> Found<'b, 'a, R> {
         requires { (1 ≤ spot.bus) × (spot.bus ≤ self.now.network.now.table.buses) }
         ensures { result ≡ row_at spot.bus spot.message (rows_of (net_on R.BusRule.answer self.now.network.now) (orders_of (net_on R.BusRule.answer self.now.network.now) (ranked_of self.now.ranked.now))) }
     {
-        let mut seen = Seen::none(spot.bus);
+        // A loop, since it counts and gathers while it searches.
+        let mut seen = Seen::none();
         for leg in self.ranked.iter().rev() {
             if leg.is_leg(spot.bus, spot.message) {
                 return Some(self.row_below(spot.bus, spot.message, seen));

@@ -5,7 +5,7 @@ ghost use Rattle.bus.specs.Range.{inside, numbers};
 ghost use Rattle.bus.specs.Rules.{Meaning};
 ghost use Rattle.bus.specs.declared.refusal.Refusal.TheVariants.{WrongRows};
 ghost use Rattle.search.specs.Deadlines.{delays};
-ghost use Rattle.search.specs.Lists.{every};
+ghost use Rattle.std.specs.List.{list_all};
 ghost use Rattle.search.specs.Net.{has};
 ghost use Rattle.boards.specs.Boards.{board_of, message_of};
 ghost use Rattle.boards.specs.Nets.{leg_at, source_leg, destinations_of};
@@ -53,6 +53,7 @@ impl Table {
 fn above_in(rows: &[Spot], bus: u8, message: u8) -> Option<LegSet>
     ensures { MatchOption result (has (leg_at bus message) (down_in rows.now bus) ≡ false) (λ s. (has (leg_at bus message) (down_in rows.now bus) ≡ true) × ((k : ℕ) → member s.bits k ≡ (inside numbers k && has (leg_at bus k) (ahead (leg_at bus message) (down_in rows.now bus))))) }
 {
+    // A loop, since it gathers while it searches.
     let mut above = LegSet::empty();
     for row in rows {
         if row.bus == bus {
@@ -78,19 +79,11 @@ fn margin_of(message: Message, destination: u8, delay: Option<u64>) -> Margin
     requires { AtMost 21000000000 delay }
     ensures { result ≡ margin_row message destination delay }
 {
-    match delay {
-        Some(delay) => Margin {
-            message: message.number,
-            destination,
-            margin: message.deadline as i64 - delay as i64,
-            over: false,
-        },
-        None => Margin {
-            message: message.number,
-            destination,
-            margin: -1,
-            over: true,
-        },
+    Margin {
+        message: message.number,
+        destination,
+        margin: delay.map_or(-1, |delay| message.deadline as i64 - delay as i64),
+        over: delay.is_none(),
     }
 }
 
@@ -181,7 +174,7 @@ impl<'b, 'a, R: BusRule> Orders<'b, 'a, R> {
 
 // Whether no margin is below zero.
 fn none_below(margins: &[Margin]) -> bool
-    ensures { result ≡ every (λ m. not (below_zero m)) margins.now }
+    ensures { result ≡ list_all (λ m. not (below_zero m)) margins.now }
 {
     margins.iter().all(|margin| margin.margin >= 0)
 }

@@ -1,7 +1,7 @@
 // Whether the rows of check name every leg exactly once, by bus.
 ghost use Rattle.std.specs.Prelude.{◌≡◌, not, ◌&&◌};
 ghost use Rattle.bus.specs.Numbered.{member};
-ghost use Rattle.search.specs.Lists.{every};
+ghost use Rattle.std.specs.List.{list_all};
 ghost use Rattle.search.specs.Net.{has};
 ghost use Rattle.boards.specs.Nets.{leg_at, net_legs};
 ghost use Rattle.planner.specs.Checks.{by_bus, order_in, is_order, named};
@@ -15,9 +15,10 @@ impl Table {
     fn by_bus(&self, rows: &[Spot]) -> bool
         ensures { result ≡ by_bus 1 self.now.buses rows.now }
     {
+        // A loop, since each row is held to the one before.
         let mut low: u8 = 1;
         for row in rows {
-            if row.bus < low || row.bus > self.buses {
+            if !(low..=self.buses).contains(&row.bus) {
                 return false;
             }
             low = row.bus;
@@ -34,7 +35,7 @@ impl Table {
 
     // Whether every leg of the bus is seen.
     fn all_seen(&self, bus: u8, seen: LegSet) -> bool
-        ensures { result ≡ every (λ x. member seen.bits x.message) (net_legs self.now.messages.items bus) }
+        ensures { result ≡ list_all (λ x. member seen.bits x.message) (net_legs self.now.messages.items bus) }
     {
         self.messages.iter().all(|message| message.leg_on(bus).is_none()
             || seen.contains(message.number))
@@ -44,6 +45,7 @@ impl Table {
     fn is_order(&self, rows: &[Spot], bus: u8) -> bool
         ensures { result ≡ is_order (order_in rows.now bus) (net_legs self.now.messages.items bus) }
     {
+        // A loop, since each row is held to all that are seen before.
         let mut seen = LegSet::empty();
         for row in rows {
             if row.bus == bus {

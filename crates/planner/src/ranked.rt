@@ -2,10 +2,10 @@
 ghost use Rattle.std.specs.Prelude.{◌≡◌, ◌&&◌, ◌==◌};
 
 #[derive(Clone, Copy, PartialEq, Eq, Debug)]
-pub struct Ranked {
-    pub bus: u8,
-    pub message: u8,
-    pub delay: u64,
+pub(crate) struct Ranked {
+    pub(crate) bus: u8,
+    pub(crate) message: u8,
+    pub(crate) delay: u64,
 }
 
 impl Ranked {

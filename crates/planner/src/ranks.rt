@@ -1,6 +1,7 @@
-// Reading the ranked legs: the delay with which a leg is ranked, whether a leg is ready.
+// Reading the ranked legs: the delay with which a leg is ranked, whether a leg is ready. Bus and number are given apart here and elsewhere,
+// and not as a Spot: callers hold one of them fixed and go through the other.
 ghost use Rattle.std.specs.Prelude.{◌≡◌};
-ghost use Rattle.search.specs.Lists.{every};
+ghost use Rattle.std.specs.List.{list_all};
 ghost use Rattle.search.specs.Stored.{stored};
 ghost use Rattle.search.specs.Walk.{known, partnered};
 ghost use Rattle.boards.specs.Nets.{leg_at, pair_to, pairs_of};
@@ -40,7 +41,7 @@ fn is_partnered(ranked: &[Ranked], message: Message, bus: u8, destination: u8) -
 
 // Whether the partner of the message's leg on `bus` is ranked, in each of its pairs.
 pub(crate) fn is_ready(ranked: &[Ranked], message: Message, bus: u8) -> bool
-    ensures { result ≡ every (partnered (stored (ranked_of ranked.now)) (leg_at bus message.number)) (pairs_of message) }
+    ensures { result ≡ list_all (partnered (stored (ranked_of ranked.now)) (leg_at bus message.number)) (pairs_of message) }
 {
     (1..=8).all(|destination| {
         !message.goes_to(destination) || is_partnered(ranked, message, bus, destination)

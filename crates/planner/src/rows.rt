@@ -17,7 +17,8 @@ pub struct Spot {
     pub message: u8,
 }
 
-// A row that check fills, one for each local message and each pair.
+// A row that check fills, one for each local message and each pair. Callers lend such rows: their form is fixed, a mark beside a margin of -1
+// where a leg is over, so that every row has a number and only late ones have one below zero.
 #[derive(Clone, Copy, Default, PartialEq, Eq, Debug)]
 pub struct Margin {
     pub message: u8,

@@ -4,8 +4,8 @@ ghost use Rattle.std.specs.Prelude.{◌≤◌};
 use bus::leg_set::LegSet;
 
 #[derive(Clone, Copy)]
-pub struct Seen {
-    pub count: u8,
-    pub above: LegSet,
+pub(crate) struct Seen {
+    pub(crate) count: u8,
+    pub(crate) above: LegSet,
     ghost few: { count ≤ 64 },
 }

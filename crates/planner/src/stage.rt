@@ -2,7 +2,7 @@
 use crate::rows::Spot;
 
 #[derive(Clone, Copy, PartialEq, Eq, Debug)]
-pub enum Stage {
+pub(crate) enum Stage {
     // nothing is tested yet
     Start,
     // this leg is tested next

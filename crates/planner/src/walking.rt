@@ -1,4 +1,5 @@
-// The steps of the walk of a board.
+// The steps of the walk of a board. That the leg under test belongs to the walk, and that a leg is open, stands in contracts and in no type:
+// such a type would have to borrow the walk that the step changes.
 ghost use Rattle.std.specs.Prelude.{◌≡◌, ℕ, true, not, Some, None, IfOk};
 ghost use Rattle.std.specs.Option.{option_map};
 ghost use Rattle.search.specs.Net.{has};
@@ -28,6 +29,7 @@ impl Table {
         requires full { first_open (ranked_of ranked.now) (layout self.now.buses self.now.messages.items).buses ≡ first_open (ranked_of ranked.now) (buses_from self.now.buses self.now.messages.items from) }
         ensures { reached ranked.now result ≡ Some (upwards (layout self.now.buses self.now.messages.items) (ranked_of ranked.now) (place_of (layout self.now.buses self.now.messages.items) (ranked_of ranked.now)).open') }
     {
+        // A loop: as a search for the first bus and then its stage it reads no plainer.
         for bus in from..=self.buses {
             if let Some(message) = self.first_candidate(ranked, bus) {
                 return Stage::Testing(Spot { bus, message });
@@ -92,24 +94,16 @@ impl Walk {
     pub(crate) fn progress(&self) -> Progress
         ensures { result ≡ progress_by self.now.stage }
     {
-        match self.stage {
-            Stage::Start => Progress::GoingOn,
-            Stage::Testing(_) => Progress::GoingOn,
-            Stage::Complete => Progress::Found,
-            Stage::Exhausted => Progress::Nothing,
-        }
+        self.stage.into()
     }
 
     // Begins, where it has not begun.
     fn begin(&mut self, table: &Table)
         ensures { reached self.new.ranked.items self.new.stage ≡ Some (stage_of (layout table.now.buses table.now.messages.items) self.old.ranked.items self.old.stage) }
     {
-        match self.stage {
-            Stage::Start => {
-                self.ranked.clear();
-                self.stage = table.upward(&self.ranked, 1);
-            }
-            Stage::Testing(_) | Stage::Complete | Stage::Exhausted => (),
+        if self.stage == Stage::Start {
+            self.ranked.clear();
+            self.stage = table.upward(&self.ranked, 1);
         }
     }
 

@@ -1,14 +1,12 @@
 // Margins of orders made by hand.
-use crate::shared_boards::{crossing, margin, rules, spot};
-use planner::board::Board;
+use crate::shared_boards::{board_of, crossing, margin, rules, spot};
 use planner::rows::Margin;
 use std::test::Fail;
 
 #[test]
 fn an_order_for_each_bus(rt: HostRuntime) -> Result<(), Fail> {
     let rules = rules()?;
-    let mut board = Board::new(rt.alloc())?;
-    board.make(&rules, 100_000)?;
+    let mut board = board_of(&rt, &rules)?;
     crossing(&mut board, 1_500_000)?;
     let mut margins = [margin(9, 9, 9); 3];
     let (meets, count) = board.check(
@@ -28,8 +26,7 @@ fn an_order_for_each_bus(rt: HostRuntime) -> Result<(), Fail> {
 #[test]
 fn one_order_on_both_buses(rt: HostRuntime) -> Result<(), Fail> {
     let rules = rules()?;
-    let mut board = Board::new(rt.alloc())?;
-    board.make(&rules, 100_000)?;
+    let mut board = board_of(&rt, &rules)?;
     crossing(&mut board, 1_500_000)?;
     let mut margins = [Margin::default(); 2];
     let (meets, _) = board.check(

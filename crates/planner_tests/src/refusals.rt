@@ -1,5 +1,5 @@
 // Every refusal of the calls, and that the smallest number is given.
-use crate::shared_boards::{crossing, entry, rules, spot};
+use crate::shared_boards::{board_of, crossing, entry, rules, spot};
 use bus::refusal::Refusal;
 use frames::can11::Can11;
 use frames::equation::Equation;
@@ -7,7 +7,7 @@ use planner::board::Board;
 use planner::rows::{Margin, Row};
 use std::test::Fail;
 
-// The refusal's number, 0 where the call was accepted.
+// The refusal's number, 0 where the call was accepted. By number, since the smallest that applies is given.
 fn number<T: Drop>(res: Result<T, Refusal>) -> u8 {
     res.err().map_or(0, |refusal| refusal.number())
 }
@@ -42,8 +42,7 @@ fn making(rt: HostRuntime) -> Result<(), Fail> {
 #[test]
 fn entering_and_withdrawing(rt: HostRuntime) -> Result<(), Fail> {
     let rules = rules()?;
-    let mut board = Board::new(rt.alloc())?;
-    board.make(&rules, 100_000)?;
+    let mut board = board_of(&rt, &rules)?;
     assert_eq!(rt; number(board.enter(entry(7, 3, 0, 1))), 4, "source");
     assert_eq!(rt; number(board.enter(entry(7, 1, 4, 1))), 4, "destination");
     assert_eq!(rt; number(board.enter(entry(7, 3, 4, 1))), 4, "before 5");
@@ -59,8 +58,7 @@ fn entering_and_withdrawing(rt: HostRuntime) -> Result<(), Fail> {
 #[test]
 fn smaller_number_first(rt: HostRuntime) -> Result<(), Fail> {
     let rules = rules()?;
-    let mut board = Board::new(rt.alloc())?;
-    board.make(&rules, 100_000)?;
+    let mut board = board_of(&rt, &rules)?;
     board.enter(entry(7, 1, 2, 1_500_000))?;
     assert_eq!(rt; number(board.enter(entry(65, 3, 0, 1))), 3, "3 before 4");
     assert_eq!(rt; number(board.enter(entry(65, 1, 1, 1))), 3, "3 before 5");
@@ -84,8 +82,7 @@ fn smaller_number_first(rt: HostRuntime) -> Result<(), Fail> {
 #[test]
 fn looking_and_listing(rt: HostRuntime) -> Result<(), Fail> {
     let rules = rules()?;
-    let mut board = Board::new(rt.alloc())?;
-    board.make(&rules, 100_000)?;
+    let mut board = board_of(&rt, &rules)?;
     crossing(&mut board, 1_500_000)?;
     assert_eq!(rt; number(board.attempt(1_000_001)), 3);
     assert_eq!(rt; number(board.list(&mut [Row::default(); 0])), 9);
@@ -102,8 +99,7 @@ fn looking_and_listing(rt: HostRuntime) -> Result<(), Fail> {
 #[test]
 fn checking(rt: HostRuntime) -> Result<(), Fail> {
     let rules = rules()?;
-    let mut board = Board::new(rt.alloc())?;
-    board.make(&rules, 100_000)?;
+    let mut board = board_of(&rt, &rules)?;
     crossing(&mut board, 1_500_000)?;
     let first = spot(1, 1);
     assert_eq!(rt;

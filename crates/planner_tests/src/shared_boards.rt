@@ -7,14 +7,18 @@ use planner::rows::{Margin, Row, Spot};
 use std::test::Fail;
 
 pub(crate) fn rules() -> Result<[Equation<Can11>; 2], Fail> {
-    Ok([
-        Equation {
-            carrier: Can11::new(2000)?,
-        },
-        Equation {
-            carrier: Can11::new(2000)?,
-        },
-    ])
+    let carrier = Can11::new(2000)?;
+    Ok([Equation { carrier }; 2])
+}
+
+// A board of these rules, without messages.
+pub(crate) fn board_of<'a>(
+    rt: &impl AllocGlobal,
+    rules: &'a [Equation<Can11>],
+) -> Result<Board<'a, Equation<Can11>>, Fail> {
+    let mut board = Board::new(rt.alloc())?;
+    board.make(rules, 100_000)?;
+    Ok(board)
 }
 
 // A message of 8 bytes that comes every 10 ms.

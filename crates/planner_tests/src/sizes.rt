@@ -1,5 +1,5 @@
 // Boards of the largest size, tries in pieces, and a board made anew.
-use crate::shared_boards::{entry, rules};
+use crate::shared_boards::{board_of, entry, rules};
 use frames::can11::Can11;
 use frames::equation::Equation;
 use planner::board::Board;
@@ -11,8 +11,7 @@ use std::test::Fail;
 // The walk of ten tries, so many at a time.
 fn in_pieces(rt: &(impl Abort + AllocGlobal), piece: u64) -> Result<u64, Fail> {
     let rules = rules()?;
-    let mut board = Board::new(rt.alloc())?;
-    board.make(&rules, 100_000)?;
+    let mut board = board_of(rt, &rules)?;
     board.enter(entry(1, 1, 2, 1_720_000))?;
     board.enter(entry(2, 2, 0, 810_000))?;
     board.enter(entry(3, 1, 2, 1_450_000))?;
@@ -37,8 +36,8 @@ fn sixty_four_messages(rt: HostRuntime) -> Result<(), Fail> {
     let rules = rules()?;
     let mut board = Board::new(rt.alloc())?;
     board.make(&rules, 0)?;
-    for i in 0..64 {
-        board.enter(entry(64 - i, 1, 0, 10_000_000))?;
+    for number in (1..=64).rev() {
+        board.enter(entry(number, 1, 0, 10_000_000))?;
     }
     assert!(rt; board.enter(entry(1, 2, 0, 10_000_000)).is_err());
     let tried = board.attempt(1_000_000)?;
@@ -54,16 +53,7 @@ fn sixty_four_messages(rt: HostRuntime) -> Result<(), Fail> {
 #[test]
 fn eight_buses_and_seven_destinations(rt: HostRuntime) -> Result<(), Fail> {
     let carrier = Can11::new(2000)?;
-    let rules = [
-        Equation { carrier },
-        Equation { carrier },
-        Equation { carrier },
-        Equation { carrier },
-        Equation { carrier },
-        Equation { carrier },
-        Equation { carrier },
-        Equation { carrier },
-    ];
+    let rules = [Equation { carrier }; 8];
     let mut board = Board::new(rt.alloc())?;
     board.make(&rules, 1000)?;
     board.enter(entry(64, 1, 254, 1_081_000))?;
@@ -72,17 +62,14 @@ fn eight_buses_and_seven_destinations(rt: HostRuntime) -> Result<(), Fail> {
     assert_eq!(rt; tried.progress, Progress::Found);
     let mut rows = [Row::default(); 9];
     assert_eq!(rt; board.list(&mut rows)?, 9);
-    let (rank, delay) = board.look(8, 64)?;
-    assert_eq!(rt; rank, 1);
-    assert_eq!(rt; delay, 540_000);
+    assert_eq!(rt; board.look(8, 64)?, (1, 540_000));
     Ok(())
 }
 
 #[test]
 fn a_board_made_anew(rt: HostRuntime) -> Result<(), Fail> {
     let rules = rules()?;
-    let mut board = Board::new(rt.alloc())?;
-    board.make(&rules, 100_000)?;
+    let mut board = board_of(&rt, &rules)?;
     board.enter(entry(1, 1, 2, 1_500_000))?;
     assert_eq!(rt; board.attempt(9)?.progress, Progress::Found);
     board.make(&rules, 0)?;

@@ -1,7 +1,7 @@
 -- What the delays have no part in: the places, the tests, that the legs are placed, and what follows once a leg was tested. In any two
 -- nets with the same buses and the same pairs these are the same.
 use Rattle.std.proofs.Common.{◌≡◌, ℕ, ◌&&◌, List, [], ◌∷◌, Some, None, Option, sym, refl, ap, ◌∙◌, ap₂}
-use Rattle.search.specs.Lists.{every}
+use Rattle.std.specs.List.{list_all}
 use Rattle.search.specs.Net.{Leg, Pair, Net, has}
 use Rattle.search.specs.Walk.{partnered, ready}
 use Rattle.search.specs.Stored.{
@@ -37,16 +37,16 @@ place-bare net [] = refl
 place-bare net (r ∷ rs) = ap (λ (at : Place). ranked_at net at r) (place-bare net rs)
 
 module _ (net other : Net) (buses : net.buses ≡ other.buses) (pairs : net.pairs ≡ other.pairs) where
-  pub same_place : (rs : List Ranked) → place_of net rs ≡ place_of other rs
+  same_place : (rs : List Ranked) → place_of net rs ≡ place_of other rs
   same_place rs = place-bare net rs ∙ ap₂ (λ bs prs. place_of (bare bs prs) rs) buses pairs ∙ sym (place-bare other rs)
 
   pub same-open : (rs : List Ranked) → (place_of net rs).open' ≡ (place_of other rs).open'
   same-open rs = ap (λ (at : Place). at.open') (same_place rs)
 
-  pub same_tests : (rs : List Ranked) → tests_at net rs ≡ tests_at other rs
+  same_tests : (rs : List Ranked) → tests_at net rs ≡ tests_at other rs
   same_tests rs = ap (tests net) (same_place rs) ∙ ap (λ prs. tests (bare [] prs) (place_of other rs)) pairs
 
-  pub same-placed : (rs : List Ranked) → placed net rs ≡ placed other rs
+  same-placed : (rs : List Ranked) → placed net rs ≡ placed other rs
   same-placed [] = refl
   same-placed (r ∷ rs) = ap₂ (λ (l : List Leg) t. has r.leg l && t) (same-open rs) (same-placed rs)
 
@@ -56,15 +56,15 @@ module _ (net other : Net) (buses : net.buses ≡ other.buses) (pairs : net.pair
   same-placed_at exhausted = refl
 
   same-ready : (rs : List Ranked) (x : Leg) → ready net (place_of net rs).delays x ≡ ready other (place_of other rs).delays x
-  same-ready rs x = λ i. every (partnered (same_place rs i).delays x) (pairs i)
+  same-ready rs x = λ i. list_all (partnered (same_place rs i).delays x) (pairs i)
 
-  pub same-retract : (rs : List Ranked) → retract net rs ≡ retract other rs
+  same-retract : (rs : List Ranked) → retract net rs ≡ retract other rs
   same-retract [] = refl
   same-retract (r ∷ rs) =
       let b = same-retract rs in
       λ i. but_for (same-ready rs r.leg i) (b i) (resume rs (head_of (behind r.leg (same_tests rs i))) (b i))
 
-  pub same-upwards : (rs : List Ranked) (l : List Leg) → upwards net rs l ≡ upwards other rs l
+  same-upwards : (rs : List Ranked) (l : List Leg) → upwards net rs l ≡ upwards other rs l
   same-upwards rs [] = refl
   same-upwards rs (y ∷ l) = λ i. resume rs (head_of (same_tests rs i)) (same-retract rs i)
 

@@ -15,7 +15,7 @@ behind-has c x [] h = grind arith
 behind-has c x (y ∷ l) h = grind (arith, behind-has c x l)
 
 -- what a test that c passes keeps behind it
-pub behind-kept : (f : Leg → Bool) (c : Leg) → f c ≡ true → (l : List Leg) → behind c (filter f l) ≡ filter f (behind c l)
+behind-kept : (f : Leg → Bool) (c : Leg) → f c ≡ true → (l : List Leg) → behind c (filter f l) ≡ filter f (behind c l)
 behind-kept f c h [] = refl
 behind-kept f c h (y ∷ l) = grind (arith, behind-kept f c h l, same-tells c y)
 

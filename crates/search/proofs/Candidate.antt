@@ -6,11 +6,11 @@ use Rattle.search.specs.Walk.{ready, candidates}
 use Rattle.search.specs.Stored.{behind, head_of, first_by, or_first}
 use Rattle.search.proofs.Behind.{behind-ready, behind-unready}
 
-pub first-kept : (f : Leg → Bool) (l : List Leg) → head_of (filter f l) ≡ first_by f l
+first-kept : (f : Leg → Bool) (l : List Leg) → head_of (filter f l) ≡ first_by f l
 first-kept f [] = refl
 first-kept f (x ∷ l) = grind (arith, first-kept f l)
 
-pub first-append : (h k : List Leg) → head_of (h ++ k) ≡ or_first (head_of h) (head_of k)
+first-append : (h k : List Leg) → head_of (h ++ k) ≡ or_first (head_of h) (head_of k)
 first-append [] k = refl
 first-append (x ∷ h) k = refl
 

@@ -1,22 +1,18 @@
 -- The open legs of a bus: the candidates of a rank are as many, and to rank one of them leaves fewer.
-use Rattle.std.proofs.Common.{◌≡◌, ℕ, ◌<◌, ◌≤◌, not, List, [], ◌∷◌, length, Some, refl, arith}
+use Rattle.std.proofs.Common.{◌≡◌, ℕ, ◌<◌, not, List, [], ◌∷◌, length, Some, refl, arith}
 use Rattle.std.specs.List.{AllByRecursion}
 use Rattle.std.proofs.ByRecursion.{All-append, all_kept_by, All-weaker}
 use Rattle.std.proofs.lemmas.List.Filters.{length-filter_both}
 use Rattle.std.proofs.lemmas.List.{length-append}
-use Rattle.search.proofs.Legs.{same-itself}
+use Rattle.search.proofs.Legs.{same-itself, less-at_most}
 use Rattle.search.specs.Net.{Leg, Net, less, Delays}
 use Rattle.search.specs.Walk.{Walked, put, ready, candidates, after, under, walk_bus}
-
-pub less-no_longer : (x : Leg) (l : List Leg) → length (less x l) ≤ length l
-less-no_longer x [] = omega arith
-less-no_longer x (y ∷ l) = grind (arith, less-no_longer x l)
 
 -- each leg of a list leaves a shorter one
 each_shortens : (l : List Leg) → AllByRecursion (λ x. length (less x l) < length l) l
 each_shortens [] = tt
 each_shortens (y ∷ l) =
-    (grind (arith, same-itself y, less-no_longer y l), All-weaker _ _ (λ x h. grind (arith, h)) l (each_shortens l))
+    (grind (arith, same-itself y, less-at_most y l), All-weaker _ _ (λ x h. grind (arith, h)) l (each_shortens l))
 
 pub candidates-count : (net : Net) (p : Delays) (l : List Leg) → length (candidates net p l) ≡ length l
 candidates-count net p l =

@@ -1,36 +1,19 @@
 -- The delays stored are those in the orders found.
-use Rattle.std.proofs.Common.{◌≡◌, ℕ, true, List, [], ◌∷◌, Some, None, Option, sym, refl, ap, ◌∙◌}
+use Rattle.std.proofs.Common.{◌≡◌, ℕ, true, List, [], ◌∷◌, Some, None, Option, sym, refl, ap, ◌∙◌, arith}
 use Rattle.std.proofs.ByRecursion.{All-weaker}
-use Rattle.std.proofs.lemmas.Bool.{and_parts, or_left}
+use Rattle.std.proofs.lemmas.Bool.{or_left}
 use Rattle.search.specs.Net.{Leg, Net, has, has_any, less, Delays}
 use Rattle.search.specs.Deadlines.{Orders, delays}
 use Rattle.search.specs.Walk.{put, or_else}
 use Rattle.search.specs.Laws.{Lawful}
-use Rattle.search.specs.Machine.{Frame, rank, bus, plug}
-use Rattle.search.specs.Stored.{
-  Ranked,
-  Place,
-  advance,
-  behind,
-  filled_by,
-  first_place,
-  place_of,
-  tests_at,
-  complete,
-  orders_at,
-  kept,
-  is_empty,
-  kept_at,
-  stored,
-  orders_of,
-  FoundDelaysAreStored,
-}
+use Rattle.search.specs.Machine.{Frame, rank, plug}
+use Rattle.search.specs.Stored.{Ranked, Place, advance, behind, filled_by, first_place, place_of, tests_at, complete, orders_at, kept, kept_at, stored, orders_of, FoundDelaysAreStored}
 use Rattle.search.proofs.Shorter.{order-delay}
 use Rattle.search.proofs.Open.{Open}
 use Rattle.search.proofs.Marks.{marks}
 use Rattle.search.proofs.Ranking.{same-mark}
 use Rattle.search.proofs.Fits.{fit-gets}
-use Rattle.search.proofs.Place.{place-delays, place-ends, kept-below, kept-placed, kept-placed_at, was_open, did_fit, open_at, stored-each}
+use Rattle.search.proofs.Place.{advance-keeps, place-delays, place-ends, kept-below, kept-placed, kept-placed_at, was_open, did_fit, open_at, stored-each}
 use Rattle.search.proofs.Filled.{orders-as_stored}
 use Rattle.search.proofs.Over.{complete_open}
 
@@ -44,9 +27,8 @@ MarkedAt net at = Marked net at.frames at.delays (at.open' ∷ at.later)
 
 marked-advance : (net : Net) (fs : List Frame) (p : Delays) (l : List Leg) (ls : List (List Leg)) → Marked net fs p (l ∷ ls) →
     MarkedAt net (advance fs p l ls)
-marked-advance net fs p [] [] h = h
-marked-advance net fs p [] (l ∷ ls) h = marked-advance net (bus ∷ fs) p l ls (λ os o y. h ([] ∷ os) (refl, o) y)
-marked-advance net fs p (x ∷ l) ls h = h
+marked-advance net =
+    advance-keeps (λ fs p l ls. Marked net fs p (l ∷ ls)) (λ fs p l ls h os o y. h ([] ∷ os) (refl, o) y)
 
 marked-first : (net : Net) (ls : List (List Leg)) → MarkedAt net (first_place ls)
 marked-first net [] = λ os o y. refl
@@ -86,7 +68,7 @@ orders-delays net (l ∷ ls) fs y = refl
 
 module _ (net : Net) (lawful : Lawful net) (rs : List Ranked) (h : kept_at net (complete rs) ≡ true) where
   k : kept net rs ≡ true
-  k = (and_parts (is_empty (place_of net rs).open') (kept net rs) h).1
+  k = grind arith
 
   none : (place_of net rs).open' ≡ []
   none = complete_open net rs (kept-placed_at net (complete rs) h)

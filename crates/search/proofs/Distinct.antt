@@ -1,27 +1,12 @@
 -- Lists in which no leg stands twice: so are what `less` and a test leave of them, and the candidates of a rank.
-use Rattle.std.proofs.Common.{◌≡◌, ◌<◌, Bool, true, false, not, ◌&&◌, ltb, List, [], ◌∷◌, ◌++◌, refl, arith}
+use Rattle.std.proofs.Common.{◌≡◌, Bool, true, false, not, List, [], ◌∷◌, ◌++◌, refl, arith}
 use Rattle.std.specs.List.{filter}
-use Rattle.std.proofs.lemmas.Bool.{and_parts, or_right}
-use Rattle.std.proofs.lemmas.Bool.Decides.{nat_tests}
-use Rattle.search.specs.Lists.{every}
+use Rattle.std.proofs.lemmas.Bool.{or_right}
 use Rattle.search.specs.Net.{Leg, same, Net, has, less, Delays}
 use Rattle.search.specs.Walk.{ready, candidates}
 use Rattle.search.specs.Stored.{behind, distinct}
 use Rattle.search.proofs.Legs.{same-itself, same-tells, has-less, has-append, has_kept}
 use Rattle.search.proofs.Behind.{behind-has}
-
--- by rising message numbers
-abbrev pub rising : List Leg → Bool
-rising [] = true
-rising (x ∷ l) = every (λ y. ltb x.message y.message) l && rising l
-
-rising-past : (x y : Leg) (l : List Leg) → every (λ z. ltb x.message z.message) l ≡ true → has y l ≡ true → x.message < y.message
-rising-past x y [] r h = grind arith
-rising-past x y (z ∷ l) r h = grind (arith, nat_tests, rising-past x y l, same-tells y z)
-
-pub rising-distinct : (l : List Leg) → rising l ≡ true → distinct l ≡ true
-rising-distinct [] r = refl
-rising-distinct (x ∷ l) r = grind (arith, rising-distinct l, rising-past x x l)
 
 pub distinct-less : (x : Leg) (l : List Leg) → distinct l ≡ true → distinct (less x l) ≡ true
 distinct-less x [] h = refl
@@ -35,8 +20,7 @@ distinct_append : (h k : List Leg) → distinct h ≡ true → distinct k ≡ tr
     distinct (h ++ k) ≡ true
 distinct_append [] k a b other = b
 distinct_append (x ∷ h) k a b other =
-    let both = and_parts (not (has x h)) (distinct h) a in
-    let rest = distinct_append h k both.1 b (λ y m. other y (or_right (same y x) (has y h) m)) in
+    let rest = distinct_append h k (grind arith) b (λ y m. other y (or_right (same y x) (has y h) m)) in
     grind (arith, rest, has-append x h k, other x, same-itself x)
 
 pub distinct-candidates : (net : Net) (p : Delays) (l : List Leg) → distinct l ≡ true → distinct (candidates net p l) ≡ true

@@ -1,55 +1,10 @@
--- The worked example, by computation, and that its net is lawful.
+-- The net of the worked example is lawful.
 use Rattle.std.proofs.Common.{◌≡◌, ℕ, ◌≤◌, Bool, true, false, cond, [], ◌∷◌, Some, None, refl, arith}
-use Rattle.std.proofs.lemmas.Bool.{false≢true}
 use Rattle.std.proofs.lemmas.Bool.Decides.{nat_tests}
-use Rattle.search.specs.Lists.{some}
+use Rattle.std.specs.List.{list_any}
 use Rattle.search.specs.Net.{Leg, same, has, has_any, touches}
-use Rattle.search.specs.Example.{
-  bus1,
-  bus2,
-  both_buses,
-  other,
-  example,
-  ExampleLawful,
-  FoundAfterFive,
-  FoundAtTheLimit,
-  NoneBelowTheLimit,
-  NoneAfterThree,
-  MeetsToTheNanosecond,
-  ReadyLegFirst,
-  BoundOfTwelve,
-}
+use Rattle.search.specs.Example.{bus1, bus2, both_buses, other, example, ExampleLawful}
 
--- ---------------------------------------------------------------- by computation
-pub found_after-five : FoundAfterFive
-unfolding same
-found_after-five = refl
-
-pub found-at_the_limit : FoundAtTheLimit
-unfolding same
-found-at_the_limit = refl
-
-pub none_below-the_limit : NoneBelowTheLimit
-unfolding same
-none_below-the_limit = refl
-
-pub none-after_three : NoneAfterThree
-unfolding same
-none-after_three = refl
-
-pub meets-to_the_nanosecond : MeetsToTheNanosecond
-unfolding same
-meets-to_the_nanosecond =
-    (record { orders = ((refl, (refl, refl)), ((refl, (refl, refl)), tt)); locals = refl; pairs = refl }, λ m. false≢true m.pairs)
-
-pub ready-leg_first : ReadyLegFirst
-unfolding same
-ready-leg_first = refl
-
-pub bound-of_twelve : BoundOfTwelve
-bound-of_twelve = (refl, refl)
-
--- ---------------------------------------------------------------- lawful
 -- a leg is on a bus or not, and the other one is among fewer legs, h, and among more, k, or not
 shorter-by_tests : (on h k : Bool) (d : ℕ) → (h ≡ true → k ≡ true) →
     cond on (Some (cond k 810000 540000)) None ≡ Some d →
@@ -61,7 +16,7 @@ not_on_both : (y : Leg) → has y bus1 ≡ true → has_any y (bus2 ∷ []) ≡ 
 unfolding same
 not_on_both y h = grind (arith, nat_tests)
 
-in_a_pair : (due1 due2 : ℕ) (x : Leg) → has_any x both_buses ≡ true → some (touches x) (example due1 due2).pairs ≡ true
+in_a_pair : (due1 due2 : ℕ) (x : Leg) → has_any x both_buses ≡ true → list_any (touches x) (example due1 due2).pairs ≡ true
 in_a_pair due1 due2 x h = grind arith
 
 pub example-lawful : ExampleLawful

@@ -1,16 +1,16 @@
 -- The exchange: where a ready leg fits, any solution can be turned into one that has this leg lowest.
-use Rattle.std.proofs.Common.{◌≡◌, ℕ, true, false, ◌&&◌, List, ◌∷◌, is_some, Some, inl, inr, arith}
-use Rattle.std.proofs.lemmas.Bool.{cases_Bool, and_parts, or_parts}
+use Rattle.std.proofs.Common.{◌≡◌, ℕ, true, false, List, ◌∷◌, is_some, Some, inl, inr, arith}
+use Rattle.std.proofs.lemmas.Bool.{cases_Bool, or_parts}
 use Rattle.search.specs.Net.{Leg, same, Pair, Net, has, less, touches, Delays}
 use Rattle.search.specs.Deadlines.{delays, met}
-use Rattle.search.specs.Walk.{put, fit, known, partnered, ready}
+use Rattle.search.specs.Walk.{put, fit, partnered, ready}
 use Rattle.search.specs.Laws.{Lawful}
-use Rattle.search.proofs.Lists.{Among, every-at, every-by}
+use Rattle.search.proofs.Lists.{Among, list_all-at, list_all-by}
 use Rattle.search.proofs.Orders.{order-less}
 use Rattle.search.proofs.Shorter.{NoLonger, no_longer-some, no_longer-else, met-shorter, fewer}
 use Rattle.search.proofs.Open.{Open, open-before, open-other}
 use Rattle.search.proofs.Marks.{marks, Solves, met-marked}
-use Rattle.search.proofs.Fits.{own_pair, fit-meets}
+use Rattle.search.proofs.Fits.{fit-meets}
 
 module _ (net : Net) (lawful : Lawful net) (p : Delays) (l : List Leg) (ls : List (List Leg)) (stands : Open p (l ∷ ls))
     (x : Leg) (on : has x l ≡ true) (d : ℕ) (fits : fit net p l x ≡ Some d) (can : ready net p x ≡ true)
@@ -18,10 +18,7 @@ module _ (net : Net) (lawful : Lawful net) (p : Delays) (l : List Leg) (ls : Lis
     -- both legs of a ready leg's pair are ranked once it is
     ready-ranked : (pr : Pair) → Among pr net.pairs → touches x pr ≡ true →
         (is_some (put p x (Some d) pr.source) ≡ true) × (is_some (put p x (Some d) pr.destination) ≡ true)
-    ready-ranked pr m t =
-        let both = and_parts (known p x pr.source) (known p x pr.destination)
-        (own_pair (touches x pr) (known p x pr.source && known p x pr.destination) t (every-at (partnered p x) pr net.pairs can m)) in
-        (grind (arith, both.0), grind (arith, both.1))
+    ready-ranked pr m t = grind (arith, list_all-at (partnered p x) pr net.pairs can m)
 
     module _ (o : List Leg) (os : List (List Leg)) (s : Solves net p (o ∷ os) (l ∷ ls)) where
       -- the other legs have one leg less above them, or as many as before
@@ -39,7 +36,7 @@ module _ (net : Net) (lawful : Lawful net) (p : Delays) (l : List Leg) (ls : Lis
                 let others = or_parts (same x pr.source) (same x pr.destination) t in
                 met-shorter net (marks net (put p x (Some d)) (less x o ∷ os)) (marks net p (o ∷ os)) pr
                 (others_shorter pr.source others.0) (others_shorter pr.destination others.1)
-                (every-at (met net (marks net p (o ∷ os))) pr net.pairs s.pairs m)
+                (list_all-at (met net (marks net p (o ∷ os))) pr net.pairs s.pairs m)
           ]
 
       pub exchange : Solves net (put p x (Some d)) (less x o ∷ os) (less x l ∷ ls)
@@ -47,5 +44,5 @@ module _ (net : Net) (lawful : Lawful net) (p : Delays) (l : List Leg) (ls : Lis
         orders = (order-less x o l s.orders.0, s.orders.1);
         ranked = λ y h. no_longer-some (delays net (less x o ∷ os) y) (delays net (o ∷ os) y)
             (fewer net lawful x y o os (open-other x y l ls stands.apart on h)) (s.ranked y (open-before x y l ls h));
-        pairs = every-by (met net (marks net (put p x (Some d)) (less x o ∷ os))) net.pairs exchange_meets;
+        pairs = list_all-by (met net (marks net (put p x (Some d)) (less x o ∷ os))) net.pairs exchange_meets;
       }

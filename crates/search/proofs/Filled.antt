@@ -1,8 +1,9 @@
 -- How far the buses are filled: those before the one being filled are full, and its open legs are those that are not ranked. So the open
 -- legs and the orders can be told from the ranked legs alone.
-use Rattle.std.proofs.Common.{◌≡◌, true, false, ◌||◌, List, [], ◌∷◌, ◌++◌, map, Some, None, sym, refl, ap, ◌∙◌, subst, ap₂, arith}
+use Rattle.std.proofs.Common.{◌≡◌, true, false, List, [], ◌∷◌, ◌++◌, map, Some, None, sym, refl, ap, ◌∙◌, subst, ap₂, arith}
 use Rattle.std.specs.List.{filter}
 use Rattle.std.proofs.lemmas.List.{append-nil, append_assoc, map-append}
+use Rattle.std.proofs.lemmas.List.Folds.{list_any-append}
 use Rattle.std.proofs.lemmas.Bool.{or_left}
 use Rattle.search.specs.Net.{Leg, Net, has, has_any, less, Delays}
 use Rattle.search.specs.Walk.{candidates}
@@ -27,19 +28,15 @@ use Rattle.search.specs.Stored.{
 use Rattle.search.proofs.Legs.{has_kept}
 use Rattle.search.proofs.Open.{Open, open-next_bus, open-ranked}
 use Rattle.search.proofs.RankedLegs.{unranked-less, unranked-all, open-append, full_still, order-more, orders-same, order-none}
-use Rattle.search.proofs.Place.{place-delays, place-ends, placed_below, was_open, open_at}
+use Rattle.search.proofs.Place.{advance-keeps, place-delays, place-ends, placed_below, was_open, open_at}
 
 -- ---------------------------------------------------------------- buses apart
-has_any-append : (x : Leg) (h k : List (List Leg)) → has_any x (h ++ k) ≡ (has_any x h || has_any x k)
-has_any-append x [] k = refl
-has_any-append x (l ∷ h) k = grind (arith, has_any-append x h k)
-
 -- a leg of one bus is on none before it
 apart-before : (done : List (List Leg)) (l : List Leg) (ls : List (List Leg)) → Apart (done ++ l ∷ ls) → (x : Leg) → has x l ≡ true →
     has_any x done ≡ false
 apart-before [] l ls a x on = refl
 apart-before (b ∷ done) l ls a x on =
-    grind (arith, apart-before done l ls a.1 x on, a.0 x, has_any-append x done (l ∷ ls))
+    grind (arith, apart-before done l ls a.1 x on, a.0 x, list_any-append (has x) done (l ∷ ls))
 
 -- ---------------------------------------------------------------- how far the buses are filled
 -- Of the buses bs, some are full; the next has the open legs l; ls come after it. Below the orders o ∷ os of the open legs, the ranks fs
@@ -75,10 +72,10 @@ filled-advance : (bs : List (List Leg)) (rs : List Ranked) (fs : List Frame) (p 
     Open (stored rs) (l ∷ ls) → Filled bs rs fs l ls →
     let at = advance fs p l ls in
     Filled bs rs at.frames at.open' at.later
-filled-advance bs rs fs p [] [] o f = f
-filled-advance bs rs fs p [] (l ∷ ls) o f =
-    filled-advance bs rs (bus ∷ fs) p l ls (open-next_bus (stored rs) (l ∷ ls) o) (filled-next_bus bs rs fs l ls o f)
-filled-advance bs rs fs p (y ∷ l) ls o f = f
+filled-advance bs rs fs p l ls o f =
+    let keeps = advance-keeps (λ fs _ l ls. Open (stored rs) (l ∷ ls) × Filled bs rs fs l ls)
+    (λ fs p l ls h. (open-next_bus (stored rs) (l ∷ ls) h.0, filled-next_bus bs rs fs l ls h.0 h.1)) fs p l ls (o, f) in
+    keeps.1
 
 filled-first : (l : List Leg) (ls : List (List Leg)) → Filled (l ∷ ls) [] [] l ls
 filled-first l ls = record {

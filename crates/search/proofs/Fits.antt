@@ -1,25 +1,20 @@
 -- What it says that a leg fits, and that the lowest leg of a solution fits.
-use Rattle.std.proofs.Common.{◌≡◌, ℕ, Bool, true, false, not, ◌||◌, List, [], ◌∷◌, is_some, Some, None, Option, sym, refl, ◌∙◌, subst, inl, inr, arith}
-use Rattle.std.proofs.lemmas.Bool.{or_left, or_right}
-use Rattle.search.specs.Lists.{every}
-use Rattle.search.specs.Net.{Leg, Pair, Net, has, has_any, less, touches, Delays}
+use Rattle.std.proofs.Common.{◌≡◌, ℕ, true, not, List, [], ◌∷◌, is_some, Some, None, Option, sym, refl, ◌∙◌, subst, inl, inr, arith}
+use Rattle.std.proofs.lemmas.Bool.{or_left, or_right, cond-false}
+use Rattle.std.specs.List.{list_all}
+use Rattle.search.specs.Net.{Leg, same, Pair, Net, has, has_any, less, touches, Delays}
 use Rattle.search.specs.Deadlines.{delays, met}
 use Rattle.search.specs.Walk.{put, or_else, counted, passes, fit_at, fit}
 use Rattle.search.specs.Laws.{Lawful}
-use Rattle.search.proofs.Lists.{Among, every-at, every-by}
-use Rattle.search.proofs.Legs.{same-tells}
-use Rattle.search.proofs.Shorter.{NoLonger, no_longer-itself, no_longer-at, no_longer-else, met-shorter, met-same, order-delay, bare}
+use Rattle.search.proofs.Lists.{Among, list_all-at, list_all-by}
+use Rattle.search.proofs.Legs.{same-itself, same-tells}
+use Rattle.search.proofs.Shorter.{NoLonger, no_longer-itself, no_longer-else, met-shorter, met-same, order-delay, bare}
 use Rattle.search.proofs.Open.{Open}
 use Rattle.search.proofs.Marks.{marks, Solves}
 use Rattle.search.proofs.Ranking.{lowest_delay}
 
--- A test of pairs that are x's alone: of such a pair it says what it tests.
-pub own_pair : (t b : Bool) → t ≡ true → (not t || b) ≡ true → b ≡ true
-own_pair true b e h = h
-own_pair false b e h = grind arith
-
 fit_parts : (net : Net) (p : Delays) (x : Leg) (d : ℕ) (a : Option ℕ) → fit_at net p x a ≡ Some d →
-    (a ≡ Some d) × (every (passes net p x d) net.pairs ≡ true)
+    (a ≡ Some d) × (list_all (passes net p x d) net.pairs ≡ true)
 fit_parts net p x d None h = grind arith
 fit_parts net p x d (Some e) h = grind arith
 
@@ -32,8 +27,7 @@ module _ (net : Net) (p : Delays) (l : List Leg) (x : Leg) (d : ℕ) (fits : fit
       is_some (put p x (Some d) pr.destination) ≡ true → met net (put p x (Some d)) pr ≡ true
   fit-meets pr m t a b =
       met-same net (put p x (Some d)) (counted net p x d) pr (own pr.source a) (own pr.destination b)
-      (own_pair (touches x pr) (met net (counted net p x d) pr) t
-      (every-at (passes net p x d) pr net.pairs (fit_parts net p x d (net.delay x (less x l)) fits).1 m))
+      (grind (arith, list_all-at (passes net p x d) pr net.pairs (fit_parts net p x d (net.delay x (less x l)) fits).1 m))
     where
       own : (y : Leg) → is_some (put p x (Some d) y) ≡ true → put p x (Some d) y ≡ counted net p x d y
       own y h = grind arith
@@ -59,11 +53,10 @@ module _ (net : Net) (lawful : Lawful net) (p : Delays) (l : List Leg) (ls : Lis
       counted-shorter y =
           elim (same-tells x y) [
             | inl t ↦
-                no_longer-at (counted net p x d y) (Some d) (marks net p ((x ∷ o) ∷ os) y) (Some d) (grind (arith, t.0))
-                (subst (λ (v : Leg). marks net p ((x ∷ o) ∷ os) v ≡ Some d) t.1 lowest_mark) (no_longer-itself (Some d))
+                subst (λ (v : Leg). NoLonger (counted net p x d v) (marks net p ((x ∷ o) ∷ os) v)) t.1
+                (rw (lowest_mark, same-itself x) (no_longer-itself (Some d)))
             | inr t ↦
-                no_longer-at (counted net p x d y) (or_else (p y) (net.delay y [])) (marks net p ((x ∷ o) ∷ os) y)
-                (marks net p ((x ∷ o) ∷ os) y) (grind (arith, t)) refl
+                rw (cond-false (same x y) (Some d) (or_else (p y) (net.delay y [])) t)
                 (no_longer-else (p y) (net.delay y []) (delays net ((x ∷ o) ∷ os) y) (bare net lawful y ((x ∷ o) ∷ os)))
           ]
 
@@ -71,10 +64,10 @@ module _ (net : Net) (lawful : Lawful net) (p : Delays) (l : List Leg) (ls : Lis
       lowest_passes pr m =
           or_right (not (touches x pr)) (met net (counted net p x d) pr)
           (met-shorter net (counted net p x d) (marks net p ((x ∷ o) ∷ os)) pr (counted-shorter pr.source) (counted-shorter pr.destination)
-          (every-at (met net (marks net p ((x ∷ o) ∷ os))) pr net.pairs s.pairs m))
+          (list_all-at (met net (marks net p ((x ∷ o) ∷ os))) pr net.pairs s.pairs m))
 
       lowest_fits_at : fit net p l x ≡ Some d
-      lowest_fits_at = rw (lowest_gets, every-by (passes net p x d) net.pairs lowest_passes)
+      lowest_fits_at = rw (lowest_gets, list_all-by (passes net p x d) net.pairs lowest_passes)
 
     pub lowest_fits : (d : ℕ) × (fit net p l x ≡ Some d)
     lowest_fits =

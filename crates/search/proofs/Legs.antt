@@ -1,7 +1,9 @@
 -- Laws of legs and of lists of legs: `same` is true exactly on equal legs; what `has` says of the lists that `less`, `filter` and
 -- `candidates` make.
-use Rattle.std.proofs.Common.{◌≡◌, ◌<◌, ◌≤◌, Bool, true, false, not, ◌&&◌, ◌||◌, eqb, ◌⊎◌, List, [], ◌∷◌, ◌++◌, length, refl, inl, inr, arith}
+use Rattle.std.proofs.Common.{◌≡◌, ◌<◌, ◌≤◌, Bool, true, false, not, ◌&&◌, ◌||◌, eqb, ◌⊎◌, List, [], ◌∷◌, ◌++◌, length, refl, sym, ap, inl, inr, arith}
 use Rattle.std.specs.List.{filter}
+use Rattle.std.proofs.lemmas.List.Folds.{list_any-append}
+use Rattle.std.proofs.lemmas.Map.Views.{any-filter_same}
 use Rattle.std.proofs.lemmas.Bool.{and_parts, eqb-true, cases_Bool}
 use Rattle.std.proofs.lemmas.Bool.Decides.{nat_tests}
 use Rattle.search.specs.Net.{Leg, same, Net, has, less, Delays}
@@ -38,7 +40,7 @@ pub less-turned : (x y : Leg) (l : List Leg) → less x (less y l) ≡ less y (l
 less-turned x y [] = refl
 less-turned x y (z ∷ l) = grind (arith, less-turned x y l)
 
-less-at_most : (x : Leg) (l : List Leg) → length (less x l) ≤ length l
+pub less-at_most : (x : Leg) (l : List Leg) → length (less x l) ≤ length l
 less-at_most x [] = omega arith
 less-at_most x (z ∷ l) = grind (arith, less-at_most x l)
 
@@ -48,12 +50,10 @@ less-shorter x (z ∷ l) h = grind (arith, less-at_most x l, less-shorter x l)
 
 -- ---------------------------------------------------------------- what is tested
 pub has-append : (x : Leg) (h k : List Leg) → has x (h ++ k) ≡ (has x h || has x k)
-has-append x [] k = refl
-has-append x (y ∷ h) k = grind (arith, has-append x h k)
+has-append x h k = list_any-append (same x) h k
 
 pub has_kept : (x : Leg) (f : Leg → Bool) (l : List Leg) → has x (filter f l) ≡ (f x && has x l)
-has_kept x f [] = grind arith
-has_kept x f (y ∷ l) = grind (arith, has_kept x f l, same-tells x y)
+has_kept x f l = any-filter_same (same x) f (f x) (λ y e. ap f (sym (same-equal x y e))) l
 
 pub has-candidates : (net : Net) (p : Delays) (x : Leg) (l : List Leg) → has x (candidates net p l) ≡ has x l
 has-candidates net p x l =

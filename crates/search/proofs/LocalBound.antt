@@ -1,13 +1,12 @@
 -- Where no message crosses, the tries of a walk are at most n(n+1)/2 added over the buses.
 -- Then every leg is ready, and a ready leg that fits ends the testing at its rank.
-use Rattle.std.proofs.Common.{◌≡◌, ℕ, zero, suc, ◌+◌, ◌*◌, ◌/◌, ◌≤◌, Bool, true, List, [], ◌∷◌, length, Some, None, Option, refl, le_trans, suc-mul, mul-suc, arith}
+use Rattle.std.proofs.Common.{◌≡◌, ℕ, suc, ◌+◌, ◌*◌, ◌/◌, ◌≤◌, Bool, true, List, [], ◌∷◌, length, Some, None, Option, refl, le_trans, suc-mul, mul-suc, arith}
 use Rattle.std.specs.List.{AllByRecursion}
-use Rattle.search.specs.Lists.{every}
-use Rattle.search.specs.Net.{Leg, Net, less, Delays}
-use Rattle.search.specs.Walk.{Walked, or_go_on, tested, test_all, walk_bus, walk_from, put, fit, ready, candidates}
+use Rattle.search.specs.Net.{Leg}
+use Rattle.search.specs.Walk.{Walked, or_go_on, tested, test_all, fit, ready}
 use Rattle.search.specs.Bound.{local_bound}
 use Rattle.search.specs.Laws.{WithinLocalBound}
-use Rattle.search.proofs.Counts.{candidates-count, candidates-each, ranking}
+use Rattle.search.proofs.Bound.{buses-within}
 
 -- ---------------------------------------------------------------- one rank
 ready-ends : (n : ℕ) (o : Option (List (List Leg))) (r : Walked) → (or_go_on true n o r).tries ≡ n
@@ -38,30 +37,8 @@ ready-tests_at_most fits is_ready above y all (c ∷ cs) h =
 one_rank_more : (m n x : ℕ) → m ≤ suc n → m + ((n * suc n) / 2 + x) ≤ (suc n * suc (suc n)) / 2 + x
 one_rank_more m n x h = omega (arith, mul-suc (suc n) (suc n), suc-mul n (suc n))
 
--- where every leg is ready, and what follows the bus takes at most x tries
-ready-bus_at_most : (net : Net) → ((p : Delays) (c : Leg) → ready net p c ≡ true) →
-    (k : Delays → Walked) (x : ℕ) → ((p : Delays) → (k p).tries ≤ x) →
-    (n : ℕ) (p : Delays) (l : List Leg) → length l ≤ n → (walk_bus net n k p l).tries ≤ (n * suc n) / 2 + x
-ready-bus_at_most net all k x h zero p l short = omega (arith, h p)
-ready-bus_at_most net all k x h (suc n) p [] short = omega (arith, h p)
-ready-bus_at_most net all k x h (suc n) p (y ∷ l) short =
-    let m : ℕ = (n * suc n) / 2 + x in
-    let above = candidates-each net p (y ∷ l) (λ c. (d : ℕ) → (ranking net n k p (y ∷ l) c d).tries ≤ m)
-    (λ c fewer d. ready-bus_at_most net all k x h n (put p c (Some d)) (less c (y ∷ l)) (omega arith)) in
-    le_trans
-    (ready-tests_at_most (fit net p (y ∷ l)) (ready net p) (ranking net n k p (y ∷ l)) m (all p) (candidates net p (y ∷ l)) above)
-    (one_rank_more _ n x (rw candidates-count short))
-
--- ---------------------------------------------------------------- all buses
-ready-buses_at_most : (net : Net) → ((p : Delays) (c : Leg) → ready net p c ≡ true) →
-    (ls : List (List Leg)) (p : Delays) → (walk_from net ls p).tries ≤ local_bound ls
-ready-buses_at_most net all [] p = omega arith
-ready-buses_at_most net all (l ∷ ls) p =
-    ready-bus_at_most net all (walk_from net ls) (local_bound ls) (ready-buses_at_most net all ls) (length l) p l (omega arith)
-
-every-of_none : {X : Type 0} (f : X → Bool) (xs : List X) → xs ≡ [] → every f xs ≡ true
-every-of_none f xs e = rw e
-
 pub within-local_bound : WithinLocalBound
 within-local_bound net none =
-    ready-buses_at_most net (λ p c. every-of_none _ net.pairs none) net.buses (λ _. None)
+    buses-within net (λ n x. (n * suc n) / 2 + x) local_bound (λ l ls. refl) (λ n x. omega arith)
+    (λ p l cs above n x short h.
+    le_trans (ready-tests_at_most (fit net p l) (ready net p) above _ (λ c. rw none) cs h) (one_rank_more _ n x short)) net.buses (λ _. None)

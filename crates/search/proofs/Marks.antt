@@ -2,13 +2,13 @@
 -- start, where no leg is ranked, these are the orders that meet the net.
 use Rattle.std.proofs.Common.{◌≡◌, Bool, true, List, [], ◌∷◌, is_some, None, inl, inr, arith}
 use Rattle.std.proofs.lemmas.Bool.{or_cases}
-use Rattle.search.specs.Lists.{every, some}
-use Rattle.search.specs.Net.{Leg, same, Pair, Net, has, has_any, touches, Delays}
+use Rattle.std.specs.List.{list_all, list_any}
+use Rattle.search.specs.Net.{Leg, Pair, Net, has, has_any, touches, Delays}
 use Rattle.search.specs.Deadlines.{Orders, delays, met, Meets}
 use Rattle.search.specs.Walk.{or_else}
 use Rattle.search.specs.Laws.{Lawful}
-use Rattle.search.proofs.Lists.{every-at, every-by, some_is}
-use Rattle.search.proofs.Legs.{same-equal, same-tells}
+use Rattle.search.proofs.Lists.{list_all-at, list_all-by, list_any_is}
+use Rattle.search.proofs.Legs.{same-tells}
 use Rattle.search.proofs.Shorter.{no_longer-first, met-shorter}
 
 -- a ranked leg has its delay, and another the delay that it gets in its order
@@ -19,7 +19,7 @@ marks net p os y = or_else (p y) (delays net os y)
 pub record Solves (net : Net) (p : Delays) (os ls : List (List Leg)) : Type 0 where
   pub orders : Orders os ls
   pub ranked : (y : Leg) → has_any y ls ≡ true → is_some (delays net os y) ≡ true
-  pub pairs : every (met net (marks net p os)) net.pairs ≡ true
+  pub pairs : list_all (met net (marks net p os)) net.pairs ≡ true
 
 -- a pair of ranked legs that is in time stays so
 pub met-marked : (net : Net) (q : Delays) (os : List (List Leg)) (pr : Pair) → met net q pr ≡ true → met net (marks net q os) pr ≡ true
@@ -28,22 +28,12 @@ met-marked net q os pr =
     (no_longer-first (q pr.destination) (delays net os pr.destination))
 
 -- ---------------------------------------------------------------- from the start
-has-every : (f : Leg → Bool) (x : Leg) (l : List Leg) → every f l ≡ true → has x l ≡ true → f x ≡ true
-has-every f x [] e h = grind arith
-has-every f x (y ∷ l) e h = grind (arith, has-every f x l, same-tells x y)
-
-source_some : (net : Net) (q : Delays) (pr : Pair) → met net q pr ≡ true → is_some (q pr.source) ≡ true
-source_some net q pr h = grind arith
-
-destination_some : (net : Net) (q : Delays) (pr : Pair) → met net q pr ≡ true → is_some (q pr.destination) ≡ true
-destination_some net q pr h = grind arith
+has-list_all : (f : Leg → Bool) (x : Leg) (l : List Leg) → list_all f l ≡ true → has x l ≡ true → f x ≡ true
+has-list_all f x [] e h = grind arith
+has-list_all f x (y ∷ l) e h = grind (arith, has-list_all f x l, same-tells x y)
 
 touched_some : (net : Net) (q : Delays) (x : Leg) (pr : Pair) → touches x pr ≡ true → met net q pr ≡ true → is_some (q x) ≡ true
-touched_some net q x pr t h =
-    elim (or_cases (same x pr.source) (same x pr.destination) t) [
-      | inl e ↦ rw (same-equal x pr.source e) (source_some net q pr h)
-      | inr e ↦ rw (same-equal x pr.destination e) (destination_some net q pr h)
-    ]
+touched_some net q x pr t h = grind (arith, same-tells x pr.source, same-tells x pr.destination)
 
 module _ (net : Net) (lawful : Lawful net) (os : List (List Leg)) where
   pub solves-from_meets : Meets net os → Solves net (λ _. None) os net.buses
@@ -51,17 +41,17 @@ module _ (net : Net) (lawful : Lawful net) (os : List (List Leg)) where
     where
       ranked : (y : Leg) → has_any y net.buses ≡ true → is_some (delays net os y) ≡ true
       ranked y h =
-          elim (or_cases (has y net.locals) (some (touches y) net.pairs) (lawful.each y h)) [
-            | inl e ↦ has-every (λ x. is_some (delays net os x)) y net.locals m.locals e
+          elim (or_cases (has y net.locals) (list_any (touches y) net.pairs) (lawful.each y h)) [
+            | inl e ↦ has-list_all (λ x. is_some (delays net os x)) y net.locals m.locals e
             | inr e ↦
-                let r = some_is (touches y) net.pairs e in
-                touched_some net (delays net os) y r.0 r.2 (every-at (met net (delays net os)) r.0 net.pairs m.pairs r.1)
+                let r = list_any_is (touches y) net.pairs e in
+                touched_some net (delays net os) y r.0 r.2 (list_all-at (met net (delays net os)) r.0 net.pairs m.pairs r.1)
           ]
 
   pub meets-from_solves : Solves net (λ _. None) os net.buses → Meets net os
   meets-from_solves s = record {
     orders = s.orders;
-    locals = every-by (λ x. is_some (delays net os x)) net.locals
-        (λ x m. s.ranked x (every-at (λ y. has_any y net.buses) x net.locals lawful.locals_on m));
+    locals = list_all-by (λ x. is_some (delays net os x)) net.locals
+        (λ x m. s.ranked x (list_all-at (λ y. has_any y net.buses) x net.locals lawful.locals_on m));
     pairs = s.pairs;
   }

@@ -1,6 +1,6 @@
 -- Where the stored walk is over, and what it has come to.
-use Rattle.std.proofs.Common.{◌≡◌, true, List, [], ◌∷◌, Some, refl, ap}
-use Rattle.std.proofs.lemmas.Bool.{and_parts, false≢true}
+use Rattle.std.proofs.Common.{◌≡◌, true, List, [], ◌∷◌, Some, refl, ap, arith}
+use Rattle.std.proofs.lemmas.Bool.{false≢true}
 use Rattle.search.specs.Net.{Leg, Net}
 use Rattle.search.specs.Walk.{Walked}
 use Rattle.search.specs.Stored.{
@@ -30,11 +30,11 @@ empty_is (x ∷ l) h = absurd (false≢true h)
 
 -- the parts of what is placed where all legs are ranked
 module _ (net : Net) (rs : List Ranked) (h : placed_at net (complete rs) ≡ true) where
-  pub complete_placed : placed net rs ≡ true
-  complete_placed = (and_parts (is_empty (place_of net rs).open') (placed net rs) h).1
+  complete_placed : placed net rs ≡ true
+  complete_placed = grind arith
 
   pub complete_open : (place_of net rs).open' ≡ []
-  complete_open = empty_is (place_of net rs).open' (and_parts (is_empty (place_of net rs).open') (placed net rs) h).0
+  complete_open = empty_is (place_of net rs).open' (grind arith)
 
 pub complete_has_its_orders : CompleteHasItsOrders
 complete_has_its_orders net a rs h =

@@ -2,21 +2,29 @@
 use Rattle.std.proofs.Common.{◌≡◌, ℕ, true, List, [], ◌∷◌, Some, None, Option, sym, refl, ap, ◌∙◌, arith}
 use Rattle.std.specs.List.{AllByRecursion}
 use Rattle.std.proofs.ByRecursion.{All-weaker}
-use Rattle.std.proofs.lemmas.Bool.{and_parts, and_from, or_left}
+use Rattle.std.proofs.lemmas.Bool.{or_left}
 use Rattle.std.proofs.lemmas.Bool.Decides.{nat_tests}
 use Rattle.search.specs.Net.{Leg, Net, has, has_any, less, Delays}
 use Rattle.search.specs.Walk.{put, fit}
 use Rattle.search.specs.Laws.{Apart}
 use Rattle.search.specs.Machine.{Frame, bus}
-use Rattle.search.specs.Stored.{Ranked, Place, advance, first_place, place_of, Stage, testing, complete, exhausted, gets, fitted, kept, kept_at, placed, placed_at, is_empty, stored}
+use Rattle.search.specs.Stored.{Ranked, Place, advance, first_place, place_of, Stage, testing, complete, exhausted, gets, kept, kept_at, placed, placed_at, stored}
 use Rattle.search.proofs.Legs.{same-itself, same-tells}
 use Rattle.search.proofs.Open.{Open, open-ranked, open-next_bus}
 
+-- what passing over a bus without open legs keeps holds of the place that is come to
+pub advance-keeps : (P : List Frame → Delays → List Leg → List (List Leg) → Type 0) →
+    ((fs : List Frame) (p : Delays) (l : List Leg) (ls : List (List Leg)) → P fs p [] (l ∷ ls) → P (bus ∷ fs) p l ls) →
+    (fs : List Frame) (p : Delays) (l : List Leg) (ls : List (List Leg)) → P fs p l ls →
+    let at = advance fs p l ls in
+    P at.frames at.delays at.open' at.later
+advance-keeps P on fs p [] [] h = h
+advance-keeps P on fs p [] (l ∷ ls) h = advance-keeps P on (bus ∷ fs) p l ls (on fs p l ls h)
+advance-keeps P on fs p (y ∷ l) ls h = h
+
 -- ---------------------------------------------------------------- its delays
 advance-delays : (fs : List Frame) (p : Delays) (l : List Leg) (ls : List (List Leg)) → (advance fs p l ls).delays ≡ p
-advance-delays fs p [] [] = refl
-advance-delays fs p [] (l ∷ ls) = advance-delays (bus ∷ fs) p l ls
-advance-delays fs p (y ∷ l) ls = refl
+advance-delays fs p l ls = advance-keeps (λ _ q _ _. q ≡ p) (λ fs q l ls e. e) fs p l ls refl
 
 first-delays : (ls : List (List Leg)) → (first_place ls).delays ≡ (λ _. None)
 first-delays [] = refl
@@ -49,9 +57,7 @@ abbrev OpenAt : Place → Type 0
 OpenAt at = Open at.delays (at.open' ∷ at.later)
 
 open-advance : (fs : List Frame) (p : Delays) (l : List Leg) (ls : List (List Leg)) → Open p (l ∷ ls) → OpenAt (advance fs p l ls)
-open-advance fs p [] [] o = o
-open-advance fs p [] (l ∷ ls) o = open-advance (bus ∷ fs) p l ls (open-next_bus p (l ∷ ls) o)
-open-advance fs p (y ∷ l) ls o = o
+open-advance = advance-keeps (λ _ p l ls. Open p (l ∷ ls)) (λ fs p l ls. open-next_bus p (l ∷ ls))
 
 open-first : (ls : List (List Leg)) → Apart ls → OpenAt (first_place ls)
 open-first [] a = record { apart = ((λ y h. refl), tt); none = λ y h. refl }
@@ -63,43 +69,28 @@ gets-is None d h = grind arith
 gets-is (Some e) d h = grind (arith, nat_tests)
 
 module _ (net : Net) (r : Ranked) (rs : List Ranked) (k : kept net (r ∷ rs) ≡ true) where
-  both : (fitted net (place_of net rs) r ≡ true) × (kept net rs ≡ true)
-  both = and_parts (fitted net (place_of net rs) r) (kept net rs) k
-
   pub kept-below : kept net rs ≡ true
-  kept-below = both.1
-
-  parts : (has r.leg (place_of net rs).open' ≡ true)
-      × (gets (fit net (place_of net rs).delays (place_of net rs).open' r.leg) r.delay ≡ true)
-  parts = and_parts (has r.leg (place_of net rs).open') _ both.0
-
-  kept-open : has r.leg (place_of net rs).open' ≡ true
-  kept-open = parts.0
+  kept-below = grind arith
 
   pub did_fit : fit net (place_of net rs).delays (place_of net rs).open' r.leg ≡ Some r.delay
-  did_fit = gets-is _ r.delay parts.1
+  did_fit = gets-is _ r.delay (grind arith)
 
 pub kept-placed : (net : Net) (rs : List Ranked) → kept net rs ≡ true → placed net rs ≡ true
 kept-placed net [] k = refl
-kept-placed net (r ∷ rs) k =
-    and_from (has r.leg (place_of net rs).open') (placed net rs) (kept-open net r rs k) (kept-placed net rs (kept-below net r rs k))
+kept-placed net (r ∷ rs) k = grind (arith, kept-placed net rs)
 
 pub kept-placed_at : (net : Net) (s : Stage) → kept_at net s ≡ true → placed_at net s ≡ true
-kept-placed_at net (testing rs c) h =
-    let both = and_parts (has c (place_of net rs).open') (kept net rs) h in
-    and_from (has c (place_of net rs).open') (placed net rs) both.0 (kept-placed net rs both.1)
-kept-placed_at net (complete rs) h =
-    let both = and_parts (is_empty (place_of net rs).open') (kept net rs) h in
-    and_from (is_empty (place_of net rs).open') (placed net rs) both.0 (kept-placed net rs both.1)
+kept-placed_at net (testing rs c) h = grind (arith, kept-placed net rs)
+kept-placed_at net (complete rs) h = grind (arith, kept-placed net rs)
 kept-placed_at net exhausted h = refl
 
 -- the parts of what is placed
 module _ (net : Net) (r : Ranked) (rs : List Ranked) (k : placed net (r ∷ rs) ≡ true) where
   pub was_open : has r.leg (place_of net rs).open' ≡ true
-  was_open = (and_parts (has r.leg (place_of net rs).open') (placed net rs) k).0
+  was_open = grind arith
 
   pub placed_below : placed net rs ≡ true
-  placed_below = (and_parts (has r.leg (place_of net rs).open') (placed net rs) k).1
+  placed_below = grind arith
 
 pub open_at : (net : Net) → Apart net.buses → (rs : List Ranked) → placed net rs ≡ true → OpenAt (place_of net rs)
 open_at net a [] k = open-first net.buses a

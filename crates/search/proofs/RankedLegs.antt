@@ -1,9 +1,9 @@
 -- What the ranked legs alone say of a bus: which of its legs are not ranked, and the order of those that are.
 use Rattle.std.proofs.Common.{◌≡◌, true, false, List, [], ◌∷◌, ◌++◌, map, reverse, None, refl, ◌∙◌, arith}
-use mathlib.Core.List.{reverse-cons}
+use mathlib.Core.List.{map-append, reverse-cons}
 use Rattle.std.specs.List.{filter}
 use Rattle.std.proofs.lemmas.List.Elements.{filter-append}
-use Rattle.std.proofs.lemmas.List.{append-nil, map-append}
+use Rattle.std.proofs.lemmas.List.{append-nil}
 use Rattle.std.proofs.lemmas.Bool.{or_left, or_right}
 use Rattle.search.specs.Net.{Leg, same, has, has_any, less}
 use Rattle.search.specs.Stored.{Ranked, stored, unranked, or_next, first_open, in_turn, order_of}
@@ -32,16 +32,11 @@ full_still r rs [] e = refl
 full_still r rs (l ∷ ls) e = grind (arith, full_still r rs ls, unranked-less r rs l)
 
 -- ---------------------------------------------------------------- the ranked legs of a bus
--- for a program that stores the earliest first
-pub in_turn-is : (rs : List Ranked) → in_turn rs ≡ map (λ r. r.leg) (reverse rs)
-in_turn-is [] = refl
-in_turn-is (r ∷ rs) = rw (in_turn-is rs, reverse-cons, map-append)
-
 -- a leg more, on this bus or on another
 pub order-more : (r : Ranked) (rs : List Ranked) (l : List Leg) → has r.leg l ≡ true → order_of (r ∷ rs) l ≡ order_of rs l ++ r.leg ∷ []
 order-more r rs l on = grind (arith, filter-append (λ x. has x l) (in_turn rs) (r.leg ∷ []))
 
-pub order_same : (r : Ranked) (rs : List Ranked) (l : List Leg) → has r.leg l ≡ false → order_of (r ∷ rs) l ≡ order_of rs l
+order_same : (r : Ranked) (rs : List Ranked) (l : List Leg) → has r.leg l ≡ false → order_of (r ∷ rs) l ≡ order_of rs l
 order_same r rs l off = grind (arith, filter-append (λ x. has x l) (in_turn rs) (r.leg ∷ []), append-nil (order_of rs l))
 
 pub orders-same : (r : Ranked) (rs : List Ranked) (ls : List (List Leg)) → has_any r.leg ls ≡ false →
@@ -54,3 +49,8 @@ order-none [] l h = refl
 order-none (r ∷ rs) l h =
     let off : has r.leg l ≡ false = grind (arith, h r.leg, same-itself r.leg) in
     order_same r rs l off ∙ order-none rs l (λ y m. grind (arith, h y m))
+
+-- for a program that stores the earliest first
+pub in_turn-is : (rs : List Ranked) → in_turn rs ≡ map (λ r. r.leg) (reverse rs)
+in_turn-is [] = refl
+in_turn-is (r ∷ rs) = rw (in_turn-is rs, reverse-cons, map-append)

@@ -1,5 +1,5 @@
 -- One leg more at the low end of an order, or one bus more: what solves the rest then solves the whole, and the other way round.
-use Rattle.std.proofs.Common.{◌≡◌, ℕ, true, false, List, [], ◌∷◌, is_some, Some, None, sym, refl, ap, ◌∙◌, subst, inl, inr, arith}
+use Rattle.std.proofs.Common.{◌≡◌, ℕ, true, false, List, [], ◌∷◌, is_some, Some, None, refl, ◌∙◌, inl, inr, arith}
 use mathlib.Core.Path.{fun_ext}
 use Rattle.std.proofs.lemmas.Bool.{or_left}
 use Rattle.search.specs.Net.{Leg, same, Net, has, has_any, less, Delays}
@@ -44,18 +44,20 @@ module _ (net : Net) (lawful : Lawful net) (p : Delays) (l : List Leg) (ls : Lis
     ranked-below : Solves net (put p c (Some d)) (o ∷ os) (less c l ∷ ls) → (y : Leg) → has_any y (l ∷ ls) ≡ true →
         is_some (delays net ((c ∷ o) ∷ os) y) ≡ true
     ranked-below s y h =
-        elim (same-tells c y) [
-          | inl t ↦
-              let at_c : is_some (delays net ((c ∷ o) ∷ os) c) ≡ true = ap is_some (lowest_delay net c o os ∙ gets-in s.orders.0) in
-              subst (λ (v : Leg). is_some (delays net ((c ∷ o) ∷ os) v) ≡ true) t.1 at_c
-          | inr t ↦ ap is_some (other-delay net c o os y t) ∙ s.ranked y (open_after c y l ls t h)
-        ]
+        grind (
+          arith,
+          same-tells c y,
+          lowest_delay net c o os,
+          gets-in s.orders.0,
+          other-delay net c o os y,
+          s.ranked y,
+          open_after c y l ls,
+        )
 
     ranked-above : Solves net p ((c ∷ o) ∷ os) (l ∷ ls) → (y : Leg) → has_any y (less c l ∷ ls) ≡ true →
         is_some (delays net (o ∷ os) y) ≡ true
     ranked-above s y h =
-        let other = open-other c y l ls stands.apart on h in
-        sym (ap is_some (other-delay net c o os y other)) ∙ s.ranked y (open-before c y l ls h)
+        grind (arith, open-other c y l ls stands.apart on h, other-delay net c o os y, s.ranked y, open-before c y l ls h)
 
     pub solves-below : Solves net (put p c (Some d)) (o ∷ os) (less c l ∷ ls) → Solves net p ((c ∷ o) ∷ os) (l ∷ ls)
     solves-below s = record {

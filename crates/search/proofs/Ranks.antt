@@ -2,19 +2,18 @@
 use Rattle.std.proofs.Common.{◌≡◌, ℕ, ◌+◌, ◌<◌, ◌≤◌, true, List, [], ◌∷◌, length, Some, None, refl, arith}
 use Rattle.search.specs.Net.{Leg, Net, has, less, Delays}
 use Rattle.search.specs.Walk.{put}
-use Rattle.search.specs.Machine.{Frame, bus}
+use Rattle.search.specs.Machine.{Frame}
 use Rattle.search.specs.Stored.{Ranked, Place, advance, filled_by, first_place, place_of, placed, leg_count}
 use Rattle.search.proofs.Legs.{less-shorter}
-use Rattle.search.proofs.Place.{was_open, placed_below}
+use Rattle.search.proofs.Place.{advance-keeps, was_open, placed_below}
 
 -- the legs that are not ranked at a place
 abbrev unranked_at : Place → ℕ
 unranked_at at = leg_count (at.open' ∷ at.later)
 
 count_advance : (fs : List Frame) (p : Delays) (l : List Leg) (ls : List (List Leg)) → unranked_at (advance fs p l ls) ≡ leg_count (l ∷ ls)
-count_advance fs p [] [] = refl
-count_advance fs p [] (l ∷ ls) = omega (arith, count_advance (bus ∷ fs) p l ls)
-count_advance fs p (y ∷ l) ls = refl
+count_advance fs p l ls =
+    advance-keeps (λ _ _ k ks. leg_count (k ∷ ks) ≡ leg_count (l ∷ ls)) (λ fs p k ks h. omega (arith, h)) fs p l ls refl
 
 count_first : (ls : List (List Leg)) → unranked_at (first_place ls) ≡ leg_count ls
 count_first [] = refl
@@ -33,14 +32,7 @@ ranks_at net (r ∷ rs) k =
       count_advance (filled_by net at r.leg ∷ at.frames) (put at.delays r.leg (Some r.delay)) (less r.leg at.open') at.later,
     )
 
-pub ranked_at-most : (net : Net) (rs : List Ranked) → placed net rs ≡ true → length rs ≤ leg_count net.buses
-ranked_at-most net rs k = omega (arith, ranks_at net rs k)
-
-has_some : (x : Leg) (l : List Leg) → has x l ≡ true → 0 < length l
-has_some x [] h = grind arith
-has_some x (y ∷ l) h = omega arith
-
 -- one more has room where a leg is open
 pub ranked-fewer : (net : Net) (rs : List Ranked) → placed net rs ≡ true → (x : Leg) → has x (place_of net rs).open' ≡ true →
     length rs < leg_count net.buses
-ranked-fewer net rs k x on = omega (arith, ranks_at net rs k, has_some x (place_of net rs).open' on)
+ranked-fewer net rs k x on = omega (arith, ranks_at net rs k, less-shorter x (place_of net rs).open' on)

@@ -1,6 +1,6 @@
 -- The delay law, as a relation between delays: what has fewer legs above it has a delay that is no longer.
 use Rattle.std.proofs.Common.{◌≡◌, ℕ, ◌≤◌, Bool, true, false, cond, List, [], ◌∷◌, is_some, Some, None, Option, sym, refl, ap, ◌∙◌, ap₂, inl, inr, arith}
-use Rattle.std.proofs.lemmas.Bool.{cases_Bool}
+use Rattle.std.proofs.lemmas.Bool.{cases_Bool, cond_both}
 use Rattle.std.proofs.lemmas.Bool.Decides.{nat_tests}
 use Rattle.search.specs.Net.{Leg, same, Pair, Net, has, less, Delays}
 use Rattle.search.specs.Deadlines.{Order, delay_in, delays, in_time, met}
@@ -15,9 +15,6 @@ NoLonger a b = (d : ℕ) → b ≡ Some d → (e : ℕ) × (a ≡ Some e) × (e 
 
 pub no_longer-itself : (a : Option ℕ) → NoLonger a a
 no_longer-itself a d h = (d, h, omega arith)
-
-pub no_longer-at : (a b c d : Option ℕ) → a ≡ b → c ≡ d → NoLonger b d → NoLonger a c
-no_longer-at a b c d e f n = rw (e, f) n
 
 pub no_longer-some : (a b : Option ℕ) → NoLonger a b → is_some b ≡ true → is_some a ≡ true
 no_longer-some a None n h = grind arith
@@ -83,8 +80,7 @@ module _ (net : Net) (lawful : Lawful net) where
 
   pub bare : (y : Leg) (os : List (List Leg)) → NoLonger (net.delay y []) (delays net os y)
   bare y [] = λ d h. grind arith
-  bare y (o ∷ os) =
-      elim (cases_Bool (has y o)) [ inl e ↦ rw e (bare-in y o) | inr e ↦ rw e (bare y os) ]
+  bare y (o ∷ os) = cond_both (has y o) _ _ (NoLonger (net.delay y [])) (λ _. bare-in y o) (λ _. bare y os)
 
   -- a leg less in its order leaves the others' delays no longer
   fewer_in : (c y : Leg) (o : List Leg) → same c y ≡ false → NoLonger (delay_in net (less c o) y) (delay_in net o y)

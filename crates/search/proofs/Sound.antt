@@ -1,13 +1,12 @@
 -- What the walk keeps while it ranks legs that fit: the pairs of ranked legs are in time, and each leg on a bus is ranked or open.
-use Rattle.std.proofs.Common.{◌≡◌, ℕ, true, false, ◌&&◌, ◌||◌, List, [], ◌∷◌, is_some, Some, None, sym, refl, ap, ◌∙◌, inl, inr, arith}
-use Rattle.std.proofs.lemmas.Bool.{cases_Bool, and_parts, or_parts}
-use Rattle.search.specs.Net.{Leg, same, Pair, Net, has, has_any, less, touches, Delays}
+use Rattle.std.proofs.Common.{◌≡◌, ℕ, true, ◌&&◌, ◌||◌, List, [], ◌∷◌, is_some, Some, None, refl, inl, inr, arith}
+use Rattle.std.proofs.lemmas.Bool.{cases_Bool}
+use Rattle.search.specs.Net.{Leg, Pair, Net, has, has_any, less, touches, Delays}
 use Rattle.search.specs.Deadlines.{met}
 use Rattle.search.specs.Walk.{put, fit}
 use Rattle.search.specs.Laws.{Lawful}
-use Rattle.search.proofs.Lists.{Among, every-at, every-by}
+use Rattle.search.proofs.Lists.{Among, list_all-at, list_all-by}
 use Rattle.search.proofs.Legs.{has-less}
-use Rattle.search.proofs.Shorter.{met-same}
 use Rattle.search.proofs.Open.{Open, open-ranked, open-next_bus}
 use Rattle.search.proofs.Marks.{marks, Solves, met-marked}
 use Rattle.search.proofs.Fits.{fit-meets}
@@ -32,20 +31,12 @@ sound-next_bus net p ls s = record { stands = open-next_bus p ls s.stands; settl
 module _ (net : Net) (p : Delays) (l : List Leg) (ls : List (List Leg)) (s : Sound net p (l ∷ ls))
     (c : Leg) (on : has c l ≡ true) (d : ℕ) (fits : fit net p l c ≡ Some d)
   where
-    untouched : (y : Leg) → same c y ≡ false → put p c (Some d) y ≡ p y
-    untouched y e = grind (arith, e)
-
     settled_ranked : (pr : Pair) → Among pr net.pairs → is_some (put p c (Some d) pr.source) ≡ true →
         is_some (put p c (Some d) pr.destination) ≡ true → met net (put p c (Some d)) pr ≡ true
     settled_ranked pr m a b =
         elim (cases_Bool (touches c pr)) [
           | inl t ↦ fit-meets net p l c d fits pr m t a b
-          | inr t ↦
-              let others = or_parts (same c pr.source) (same c pr.destination) t in
-              let source = untouched pr.source others.0 in
-              let destination = untouched pr.destination others.1 in
-              met-same net (put p c (Some d)) p pr source destination
-              (s.settled pr m (sym (ap is_some source) ∙ a) (sym (ap is_some destination) ∙ b))
+          | inr t ↦ grind (arith, s.settled pr m)
         ]
 
     pub sound-ranked : Sound net (put p c (Some d)) (less c l ∷ ls)
@@ -59,15 +50,12 @@ module _ (net : Net) (p : Delays) (l : List Leg) (ls : List (List Leg)) (s : Sou
 module _ (net : Net) (lawful : Lawful net) (p : Delays) (s : Sound net p []) where
   ended-meets : (pr : Pair) → Among pr net.pairs → met net (marks net p []) pr ≡ true
   ended-meets pr m =
-      let ends = every-at (λ r. has_any r.source net.buses && has_any r.destination net.buses) pr net.pairs lawful.pairs_on m in
-      let on = and_parts (has_any pr.source net.buses) (has_any pr.destination net.buses) ends in
-      let source : is_some (p pr.source) ≡ true = grind (arith, s.covered pr.source on.0) in
-      let destination : is_some (p pr.destination) ≡ true = grind (arith, s.covered pr.destination on.1) in
-      met-marked net p [] pr (s.settled pr m source destination)
+      let on = list_all-at (λ r. has_any r.source net.buses && has_any r.destination net.buses) pr net.pairs lawful.pairs_on m in
+      met-marked net p [] pr (grind (arith, on, s.settled pr m, s.covered pr.source, s.covered pr.destination))
 
   pub sound-ended : Solves net p [] []
   sound-ended = record {
     orders = tt;
     ranked = λ y h. grind arith;
-    pairs = every-by (met net (marks net p [])) net.pairs ended-meets;
+    pairs = list_all-by (met net (marks net p [])) net.pairs ended-meets;
   }

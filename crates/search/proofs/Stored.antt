@@ -1,7 +1,7 @@
 -- One try on what is stored is one step of the machine, and the first stage is where the machine starts.
 use Rattle.std.proofs.Common.{◌≡◌, ℕ, Bool, true, false, List, [], ◌∷◌, Some, None, Option, sym, refl, ap, ◌∙◌, arith}
 use Rattle.std.proofs.lemmas.Bool.{and_parts}
-use Rattle.search.specs.Lists.{every}
+use Rattle.std.specs.List.{list_all}
 use Rattle.search.specs.Net.{Leg, Net, less, Delays}
 use Rattle.search.specs.Walk.{put, fit, ready}
 use Rattle.search.specs.Machine.{Frame, bus, State, ended, plug, go_on, unless, take_back, next, step_at, begin_at, to_come}
@@ -34,20 +34,19 @@ use Rattle.search.specs.Stored.{
 }
 use Rattle.search.proofs.Machine.{start-has_all}
 use Rattle.search.proofs.Behind.{behind-first}
+use Rattle.search.proofs.Place.{advance-keeps}
 use Rattle.search.proofs.Distinct.{distinct-less, distinct-candidates, behind-next}
 
 -- ---------------------------------------------------------------- the open legs are distinct
 -- no leg stands twice in the open legs of a place or in a list after them
 abbrev DistinctAt : Place → Type 0
-DistinctAt at = every distinct (at.open' ∷ at.later) ≡ true
+DistinctAt at = list_all distinct (at.open' ∷ at.later) ≡ true
 
-distinct-advance : (fs : List Frame) (p : Delays) (l : List Leg) (ls : List (List Leg)) → every distinct (l ∷ ls) ≡ true →
+distinct-advance : (fs : List Frame) (p : Delays) (l : List Leg) (ls : List (List Leg)) → list_all distinct (l ∷ ls) ≡ true →
     DistinctAt (advance fs p l ls)
-distinct-advance fs p [] [] h = h
-distinct-advance fs p [] (l ∷ ls) h = distinct-advance (bus ∷ fs) p l ls h
-distinct-advance fs p (y ∷ l) ls h = h
+distinct-advance = advance-keeps (λ _ _ l ls. list_all distinct (l ∷ ls) ≡ true) (λ fs p l ls h. h)
 
-distinct-first : (ls : List (List Leg)) → every distinct ls ≡ true → DistinctAt (first_place ls)
+distinct-first : (ls : List (List Leg)) → list_all distinct ls ≡ true → DistinctAt (first_place ls)
 distinct-first [] h = refl
 distinct-first (l ∷ ls) h = distinct-advance [] (λ _. None) l ls h
 
@@ -55,14 +54,13 @@ distinct-at : (net : Net) → Distinct net → (rs : List Ranked) → DistinctAt
 distinct-at net h [] = distinct-first net.buses h
 distinct-at net h (r ∷ rs) =
     let at = place_of net rs in
-    let both = and_parts (distinct at.open') (every distinct at.later) (distinct-at net h rs) in
-    distinct-advance _ _ (less r.leg at.open') at.later (grind (arith, distinct-less r.leg at.open' both.0, both.1))
+    distinct-advance _ _ (less r.leg at.open') at.later (grind (arith, distinct-less r.leg at.open', distinct-at net h rs))
 
 distinct-tests : (net : Net) → Distinct net → (rs : List Ranked) → distinct (tests_at net rs) ≡ true
 distinct-tests net h rs =
     let at = place_of net rs in
     distinct-candidates net at.delays at.open'
-    (and_parts (distinct at.open') (every distinct at.later) (distinct-at net h rs)).0
+    (and_parts (distinct at.open') (list_all distinct at.later) (distinct-at net h rs)).0
 
 -- ---------------------------------------------------------------- the next rank
 -- the machine at a place of a net with the buses bs, where the legs l are open there
@@ -85,9 +83,8 @@ next-first net (l ∷ ls) = next-advances net (l ∷ ls) [] (λ _. None) l ls re
 orders-filled : (bs : List (List Leg)) (f : Frame) (fs : List Frame) (p : Delays) (l : List Leg) (ls : List (List Leg)) →
     let at = advance (f ∷ fs) p l ls in
     orders_at bs at.frames ≡ plug at.frames ([] ∷ [])
-orders-filled [] f fs p [] [] = refl
-orders-filled [] f fs p [] (l ∷ ls) = orders-filled [] bus (f ∷ fs) p l ls
-orders-filled [] f fs p (y ∷ l) ls = refl
+orders-filled [] f fs p l ls =
+    advance-keeps (λ gs _ _ _. orders_at [] gs ≡ plug gs ([] ∷ [])) (λ gs q k ks h. refl) (f ∷ fs) p l ls refl
 orders-filled (b ∷ bs) f fs p l ls = refl
 
 next-filled : (net : Net) (bs : List (List Leg)) (f : Frame) (fs : List Frame) (p : Delays) (l : List Leg) (ls : List (List Leg)) →
@@ -98,9 +95,7 @@ next-filled net bs f fs p l ls = next-advances net bs (f ∷ fs) p l ls (orders-
 -- to pass over buses takes nothing back
 back_advances : (net : Net) (fs : List Frame) (p : Delays) (l : List Leg) (ls : List (List Leg)) →
     take_back net (advance fs p l ls).frames ≡ take_back net fs
-back_advances net fs p [] [] = refl
-back_advances net fs p [] (l ∷ ls) = back_advances net (bus ∷ fs) p l ls
-back_advances net fs p (y ∷ l) ls = refl
+back_advances net fs p l ls = advance-keeps (λ gs _ _ _. take_back net gs ≡ take_back net fs) (λ gs p l ls h. h) fs p l ls refl
 
 back_first : (net : Net) (ls : List (List Leg)) → take_back net (first_place ls).frames ≡ ended None
 back_first net [] = refl

@@ -1,5 +1,5 @@
 -- What the outcome of testing the candidates of a rank says of each candidate.
-use Rattle.std.proofs.Common.{◌≡◌, ℕ, Bool, true, false, ◌⊎◌, List, [], ◌∷◌, Some, None, Option, sym, refl, ap, ◌∙◌, subst, inl, inr, arith}
+use Rattle.std.proofs.Common.{◌≡◌, ℕ, Bool, true, false, ◌⊎◌, List, [], ◌∷◌, Some, None, Option, refl, subst, inl, inr, arith}
 use Rattle.std.specs.Option.{option_map}
 use Rattle.std.proofs.lemmas.Bool.{or_left, or_right}
 use Rattle.search.specs.Net.{Leg, same, has}
@@ -79,10 +79,7 @@ module _ (fits : Leg → Option ℕ) (is_ready : Leg → Bool) (above : Leg → 
     where
       each : AllDead (c ∷ cs)
       each x m d e =
-          elim (same-tells x c) [
-            | inl t ↦ subst (λ (v : Leg). (above v d).outcome ≡ None) (sym t.1) (none d (ap fits (sym t.1) ∙ e))
-            | inr t ↦ all x (grind arith) d e
-          ]
+          elim (same-tells x c) [ inl t ↦ grind (arith, t.1, none d) | inr t ↦ all x (grind arith) d e ]
 
   -- where none comes of a rank, none comes of any candidate that fits, or none of a ready one
   pub testing-none : (cs : List Leg) → (test_all fits is_ready above cs).outcome ≡ None → AllDead cs ⊎ ReadyDead cs

@@ -1,7 +1,7 @@
 -- Orders, and when they meet the deadlines.
 -- An order lists the legs of a bus from the lowest rank up to the highest, so what stands behind a leg is the set above it.
 use Rattle.std.specs.Prelude.{◌≡◌, ℕ, ◌+◌, Bool, true, false, cond, List, [], ◌∷◌, is_some, Some, None, Option, nat_le}
-use Rattle.search.specs.Lists.{every}
+use Rattle.std.specs.List.{list_all}
 use Rattle.search.specs.Net.{Leg, same, Pair, Net, has, less, Delays}
 
 -- o names each leg of l exactly once, and no other leg
@@ -39,6 +39,6 @@ met net q pr = in_time net.gateway pr.deadline (q pr.source) (q pr.destination)
 pub record Meets (net : Net) (os : List (List Leg)) : Type 0 where
   pub orders : Orders os net.buses
   -- every local leg has a delay
-  pub locals : every (λ x. is_some (delays net os x)) net.locals ≡ true
+  pub locals : list_all (λ x. is_some (delays net os x)) net.locals ≡ true
   -- every pair is in time
-  pub pairs : every (met net (delays net os)) net.pairs ≡ true
+  pub pairs : list_all (met net (delays net os)) net.pairs ≡ true

@@ -1,6 +1,6 @@
 -- What is assumed of a net, and what is claimed of its walk.
 use Rattle.std.specs.Prelude.{◌≡◌, ℕ, ◌≤◌, true, false, ◌&&◌, ◌||◌, List, [], ◌∷◌, Some, None}
-use Rattle.search.specs.Lists.{every, some}
+use Rattle.std.specs.List.{list_all, list_any}
 use Rattle.search.specs.Net.{Leg, Net, has, has_any, touches}
 use Rattle.search.specs.Deadlines.{Meets}
 use Rattle.search.specs.Walk.{walk}
@@ -22,10 +22,10 @@ pub record Lawful (net : Net) : Type 0 where
       (e : ℕ) × (net.delay x h ≡ Some e) × (e ≤ d)
   pub apart : Apart net.buses
   -- a leg on a bus is a local message's or in a pair
-  pub each : (x : Leg) → has_any x net.buses ≡ true → (has x net.locals || some (touches x) net.pairs) ≡ true
+  pub each : (x : Leg) → has_any x net.buses ≡ true → (has x net.locals || list_any (touches x) net.pairs) ≡ true
   -- the local legs and the legs of each pair are on buses
-  pub locals_on : every (λ x. has_any x net.buses) net.locals ≡ true
-  pub pairs_on : every (λ pr. has_any pr.source net.buses && has_any pr.destination net.buses) net.pairs ≡ true
+  pub locals_on : list_all (λ x. has_any x net.buses) net.locals ≡ true
+  pub pairs_on : list_all (λ pr. has_any pr.source net.buses && has_any pr.destination net.buses) net.pairs ≡ true
 
 -- where the walk ends with orders, they meet the net
 abbrev pub FoundMeets : Type 0

@@ -1,4 +1,3 @@
-pub mod Lists
 pub mod Net
 pub mod Deadlines
 pub mod Walk

@@ -1,8 +1,7 @@
 -- How a program stores the walk: the ranked legs with their delays, and the leg that is tested next, or that the walk has ended. The rest
 -- is computed from these. No public contract of the planner cites this file: what a caller is told is the walk.
 use Rattle.std.specs.Prelude.{◌≡◌, ℕ, zero, suc, ◌+◌, min, Bool, true, false, cond, not, ◌&&◌, List, [], ◌∷◌, ◌++◌, map, length, is_some, Some, None, Option, ◌==◌}
-use Rattle.std.specs.List.{filter, AllByRecursion}
-use Rattle.search.specs.Lists.{every}
+use Rattle.std.specs.List.{list_all, filter, AllByRecursion}
 use Rattle.search.specs.Net.{Leg, same, Net, has, less, Delays}
 use Rattle.search.specs.Deadlines.{delays}
 use Rattle.search.specs.Walk.{Walked, put, fit, ready, candidates, walk}
@@ -237,7 +236,7 @@ distinct (x ∷ l) = not (has x l) && distinct l
 
 -- no leg stands twice in the list of a bus
 abbrev pub Distinct : Net → Type 0
-Distinct net = every distinct net.buses ≡ true
+Distinct net = list_all distinct net.buses ≡ true
 
 -- One try on what is stored is one step of the machine.
 abbrev pub TryIsAStep : Type 0

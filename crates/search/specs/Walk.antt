@@ -2,8 +2,7 @@
 -- It is stated whole, as what comes of it (the tries and the outcome), and not as steps.
 use Rattle.std.specs.Prelude.{ℕ, zero, suc, ◌+◌, Bool, true, false, cond, not, ◌&&◌, ◌||◌, List, [], ◌∷◌, ◌++◌, length, is_some, Some, None, Option}
 use Rattle.std.specs.Option.{option_map}
-use Rattle.std.specs.List.{filter}
-use Rattle.search.specs.Lists.{every}
+use Rattle.std.specs.List.{list_all, filter}
 use Rattle.search.specs.Net.{Leg, same, Pair, Net, less, touches, Delays}
 use Rattle.search.specs.Deadlines.{met}
 
@@ -28,7 +27,7 @@ passes net p x d pr = not (touches x pr) || met net (counted net p x d) pr
 
 abbrev pub fit_at : Net → Delays → Leg → Option ℕ → Option ℕ
 fit_at net p x None = None
-fit_at net p x (Some d) = cond (every (passes net p x d) net.pairs) (Some d) None
+fit_at net p x (Some d) = cond (list_all (passes net p x d) net.pairs) (Some d) None
 
 -- The delay with which x fits below the other open legs l of its bus; None where it does not fit.
 abbrev pub fit : Net → Delays → List Leg → Leg → Option ℕ
@@ -42,7 +41,7 @@ abbrev pub partnered : Delays → Leg → Pair → Bool
 partnered p x pr = not (touches x pr) || (known p x pr.source && known p x pr.destination)
 
 abbrev pub ready : Net → Delays → Leg → Bool
-ready net p x = every (partnered p x) net.pairs
+ready net p x = list_all (partnered p x) net.pairs
 
 -- what is tested at a rank, in this order: the ready legs, then the others, each by rising message number
 abbrev pub candidates : Net → Delays → List Leg → List Leg

@@ -15,6 +15,7 @@ impl<'a, R: BusRule> Board<'a, R> {
         ensures kept { OnErr result (self.new ≡ self.old) }
     {
         let message = self.network.table.admitted(given)?;
+        // Lent by itself first: the check does not follow a loan of a field within a field.
         let network = &mut self.network;
         network.table.put(message);
         self.walk.reset();
@@ -27,6 +28,7 @@ impl<'a, R: BusRule> Board<'a, R> {
         ensures kept { OnErr result (self.new ≡ self.old) }
     {
         let number = self.network.table.to_withdraw(number)?;
+        // Lent by itself first, as in enter.
         let network = &mut self.network;
         network.table.take(number);
         self.walk.reset();

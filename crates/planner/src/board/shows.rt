@@ -1,10 +1,8 @@
 // The calls that show the orders found. They leave board and walk as they are.
-ghost use Rattle.std.specs.Prelude.{◌≡◌, true, false, not, ◌&&◌, length, MatchResult};
+ghost use Rattle.std.specs.Prelude.{◌≡◌, true, false, length, MatchResult};
 ghost use Rattle.bus.specs.declared.refusal.Refusal.TheVariants.{NotFound};
 ghost use Rattle.planner.specs.Logs.{Gives, look as looking, list as listing};
-ghost use Rattle.planner.specs.Refusing.{is_none};
-ghost use Rattle.planner.specs.Stages.{is_complete};
-ghost use Rattle.planner.specs.Views.{standing, looks, lists, KeepsRest};
+ghost use Rattle.planner.specs.Views.{standing, has_found, looks, lists, KeepsRest};
 
 use super::Board;
 use crate::found::Found;
@@ -16,14 +14,14 @@ use bus::rule::BusRule;
 impl<'a, R: BusRule> Board<'a, R> {
     // Whether the walk has ended with found; a board without messages has no walk that could end.
     fn has_found(&self) -> bool
-        ensures { result ≡ (not (is_none self.now.network.table.messages.items) && is_complete self.now.walk.stage) }
+        ensures { result ≡ has_found self.now }
     {
         !self.network.table.is_empty() && self.walk.stage == Stage::Complete
     }
 
     // The orders found; NotFound where the walk has not ended with found.
     fn found(&self) -> Result<Found<'_, 'a, R>, Refusal>
-        ensures { MatchResult result (λ f. ((not (is_none self.now.network.table.messages.items) && is_complete self.now.walk.stage) ≡ true) × (f.network.now ≡ self.now.network) × (f.ranked.now ≡ self.now.walk.ranked.items)) (λ f. ((not (is_none self.now.network.table.messages.items) && is_complete self.now.walk.stage) ≡ false) × (f ≡ NotFound)) }
+        ensures { MatchResult result (λ f. (has_found self.now ≡ true) × (f.network.now ≡ self.now.network) × (f.ranked.now ≡ self.now.walk.ranked.items)) (λ f. (has_found self.now ≡ false) × (f ≡ NotFound)) }
     {
         if !self.has_found() {
             return Err(Refusal::NotFound);

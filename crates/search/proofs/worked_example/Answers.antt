@@ -1,22 +1,18 @@
-use Rattle.search.proofs.Example.{
-  found_after-five,
-  found-at_the_limit,
-  none_below-the_limit,
-  none-after_three,
-  meets-to_the_nanosecond,
-  ready-leg_first,
-  bound-of_twelve,
-  example-lawful,
-}
+use Rattle.std.proofs.Common.{refl}
+use Rattle.std.proofs.lemmas.Bool.{false≢true}
+use Rattle.search.specs.Net.{same}
+use Rattle.search.proofs.Example.{example-lawful}
 use Rattle.search.proofs.worked_example.Goals as goal
 
+-- all but the first by computation
 pub returns : goal.returns
+unfolding same
 returns c =
     record {
       lawful = example-lawful;
-      found = (found_after-five, found-at_the_limit);
-      none = (none_below-the_limit, none-after_three);
-      meets = meets-to_the_nanosecond;
-      ready = ready-leg_first;
-      bound = bound-of_twelve;
+      found = (refl, refl);
+      none = (refl, refl);
+      meets = (record { orders = ((refl, (refl, refl)), ((refl, (refl, refl)), tt)); locals = refl; pairs = refl }, λ m. false≢true m.pairs);
+      ready = refl;
+      bound = (refl, refl);
     }

@@ -1,19 +1,16 @@
-use Rattle.std.proofs.Common.{◌≡◌, ℕ, ◌<◌, List, [], length, get_or, vec_items, sym, refl, ap, subst, arith}
+use Rattle.std.proofs.Common.{◌≡◌, ℕ, ◌<◌, List, length, get_or, vec_items, sym, ap, subst, arith}
 use Rattle.planner.specs.Views.{standing}
-use Rattle.logs.specs.Lines.{Line, log_of, Leads}
+use Rattle.logs.specs.Lines.{log_of, Leads}
 use Rattle.logs.specs.declared.answer.Answer.{Answer}
-use Rattle.logs.proofs.Turns.{log_none, turn}
+use Rattle.logs.proofs.Turns.{Leads-none, Leads-turn}
 use Rattle.logs.proofs.running.give_all.Goals as goal
 
 pub loop-call-init : goal.loop-call-init
-loop-call-init g c =
-    let s = standing g.R.BusRule.answer c.args.board.now in
-    let calls = c.args.calls.now in
-    let none : Leads s (log_of calls []) s = subst (λ (log : List Line). Leads s log s) (sym (log_none calls)) refl in (
-      subst (λ (xs : List Answer). Leads s (log_of calls xs) s) (sym c.requires.empty) none,
-      omega (arith, ap length c.requires.empty, c.args.answers.now.ok.0),
-      c.requires.room,
-    )
+loop-call-init g c = (
+  Leads-none (standing g.R.BusRule.answer c.args.board.now) c.args.calls.now _ c.requires.empty,
+  omega (arith, ap length c.requires.empty, c.args.answers.now.ok.0),
+  c.requires.room,
+)
 
 pub loop-call-preserved : goal.loop-call-preserved
 loop-call-preserved g c =
@@ -29,7 +26,7 @@ loop-call-preserved g c =
     let within : length before < length calls = omega (arith, at, c.loop-call-test.true) in
     let here : call ≡ get_or calls (length before) call = subst (λ (k : ℕ). call ≡ get_or calls k call) at c.call-item.is in (
       subst (λ (xs : List Answer). Leads s (log_of calls xs) u) (sym c.push_reserved.ensures.items)
-          (turn s t u calls before call answer within here c.loop-call.invariant.0 c.in_ok-answer.ensures.answer),
+          (Leads-turn s t u calls before call answer within here c.loop-call.invariant.0 c.in_ok-answer.ensures.answer),
       omega (arith, c.push_reserved.ensures.len, c.loop-call.invariant.1),
       omega (arith, c.push_reserved.ensures.capacity, c.loop-call.invariant.2),
     )

@@ -1,9 +1,9 @@
 use Rattle.std.proofs.Common.{arith}
-use Rattle.planner.proofs.Same.{same_of}
+use Rattle.planner.proofs.Same.{same-bus}
 use Rattle.planner.proofs.ranks.is_known.Goals as goal
 
 pub returns-then-bus-other : goal.returns-then-bus-other
-returns-then-bus-other c = grind (arith, same_of)
+returns-then-bus-other c = grind (arith, same-bus)
 
 pub returns-else-bus-other : goal.returns-else-bus-other
-returns-else-bus-other c = grind (arith, same_of)
+returns-else-bus-other c = grind (arith, same-bus)

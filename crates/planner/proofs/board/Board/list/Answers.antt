@@ -8,8 +8,8 @@ use Rattle.planner.specs.Logs.{Gives, list as listing}
 use Rattle.planner.specs.Networks.{net_on}
 use Rattle.planner.specs.Storage.{ranked_of}
 use Rattle.planner.specs.Views.{board_in, standing, lists}
-use Rattle.planner.proofs.BoardFacts.{sound-of, found_of, count_of}
-use Rattle.planner.proofs.Listings.{list_not_found, list_few, list_gives}
+use Rattle.planner.proofs.BoardFacts.{Sound-board_in, found_of, count_of}
+use Rattle.planner.proofs.Listings.{Gives-list_not_found, Gives-list_few, Gives-list}
 use Rattle.planner.proofs.board.Board.list.Given.{Over}
 use Rattle.planner.proofs.board.Board.list.Goals as goal
 
@@ -22,14 +22,14 @@ returns-in_err-found-clause-answer g c =
     let f = g.R.BusRule.answer in
     let told : c.from_residual.result ≡ Err NotFound = search rules in
     subst (λ r. Gives (standing f board) (listing (length c.args.rows.now)) (lists c.args.rows.now r) (standing f board)) (sym told)
-    (list_not_found (board_in f board) (sound-of board f (keeps g)) (vec_items board.walk.ranked) board.walk.stage (length c.args.rows.now) c.in_err-found.ensures.0)
+    (Gives-list_not_found (board_in f board) (Sound-board_in board f (keeps g)) (vec_items board.walk.ranked) board.walk.stage (length c.args.rows.now) c.in_err-found.ensures.0)
 
 pub returns-then-rows-found-clause-answer : goal.returns-then-rows-found-clause-answer
 returns-then-rows-found-clause-answer g c =
     let board = c.args.self.now in
     let f = g.R.BusRule.answer in
     let yes = c.in_ok-found.ensures.0 in
-    list_few (board_in f board) (sound-of board f (keeps g)) (vec_items board.walk.ranked) board.walk.stage
+    Gives-list_few (board_in f board) (Sound-board_in board f (keeps g)) (vec_items board.walk.ranked) board.walk.stage
     (walk.orders_of (net_of (board_in f board)) (ranked_of (vec_items board.walk.ranked))) (found_of board f (keeps g) yes) (length c.args.rows.now)
     (omega (arith, ap length c.in_ok-found.ensures.2, count_of board f yes))
 
@@ -45,7 +45,7 @@ returns-clause-answer g c =
     let same : rows_of (net_on f c.in_ok-found.found.network.now) (walk.orders_of (net_on f c.in_ok-found.found.network.now) (ranked_of c.in_ok-found.found.ranked.now)) ≡ rows_of net os =
     λ i. rows_of (net_on f (network i)) (walk.orders_of (net_on f (network i)) (ranked_of (stored i)))
     in
-    list_gives (board_in f board) (sound-of board f (keeps g)) (vec_items board.walk.ranked) board.walk.stage os (found_of board f (keeps g) yes) (length c.args.rows.now)
+    Gives-list (board_in f board) (Sound-board_in board f (keeps g)) (vec_items board.walk.ranked) board.walk.stage os (found_of board f (keeps g) yes) (length c.args.rows.now)
     c.write_rows.result c.args.rows.now c.write_rows.new.rows
     (omega (arith, ap length stored, count_of board f yes))
     (c.write_rows.ensures.count ∙ ap length same) (c.write_rows.ensures.rows ∙ ap (λ l. l ++ drop c.write_rows.result c.args.rows.now) same)

@@ -9,8 +9,9 @@ use Rattle.planner.specs.Networks.{net_on}
 use Rattle.planner.specs.Refusing.{look_fault}
 use Rattle.planner.specs.Storage.{ranked_of}
 use Rattle.planner.specs.Views.{board_in, standing, looks}
-use Rattle.planner.proofs.BoardFacts.{rules_are, sound-of, found_of, ranked-of}
-use Rattle.planner.proofs.Listings.{look_tests, look_gives, look_not_found}
+use Rattle.planner.proofs.BusRules.{length-rules_of}
+use Rattle.planner.proofs.BoardFacts.{Sound-board_in, found_of, ranked-of}
+use Rattle.planner.proofs.Listings.{look_fault-tests, Gives-look, Gives-look_not_found}
 use Rattle.planner.proofs.board.Board.look.Given.{Over}
 use Rattle.planner.proofs.board.Board.look.Goals as goal
 
@@ -23,13 +24,13 @@ returns-in_err-found g c =
     let f = g.R.BusRule.answer in
     let told : c.from_residual-in_err-found.result ≡ Err NotFound = search rules in
     subst (λ r. Gives (standing f board) (looking c.args.bus c.args.message) (looks r) (standing f board)) (sym told)
-    (look_not_found (board_in f board) (sound-of board f (keeps g)) (vec_items board.walk.ranked) board.walk.stage c.args.bus c.args.message c.in_err-found.ensures.0
-    (ap (λ n. look_fault n (vec_items board.network.table.messages) true c.args.bus c.args.message) (rules_are board f) ∙ c.in_ok-spot.ensures.0))
+    (Gives-look_not_found (board_in f board) (Sound-board_in board f (keeps g)) (vec_items board.walk.ranked) board.walk.stage c.args.bus c.args.message c.in_err-found.ensures.0
+    (ap (λ n. look_fault n (vec_items board.network.table.messages) true c.args.bus c.args.message) (length-rules_of f board.network) ∙ c.in_ok-spot.ensures.0))
 
 pub row_of-row-requires-clause-ranked : goal.row_of-row-requires-clause-ranked
 row_of-row-requires-clause-ranked g c =
     let board = c.args.self.now in
-    let tests = look_tests board.network.table.buses (vec_items board.network.table.messages) c.args.bus c.args.message c.in_ok-spot.ensures.0 in
+    let tests = look_fault-tests board.network.table.buses (vec_items board.network.table.messages) c.args.bus c.args.message c.in_ok-spot.ensures.0 in
     let is = ranked-of board c.in_ok-found.ensures.0 c.args.bus c.args.message tests.low tests.high tests.leg in
     let bus = c.in_ok-spot.ensures.1 in
     let number = c.in_ok-spot.ensures.2 in
@@ -53,7 +54,7 @@ returns g c =
     ≡ row_at c.args.bus c.args.message (rows_of net os) =
     λ i. row_at (bus i) (number i) (rows_of (net_on f (network i)) (walk.orders_of (net_on f (network i)) (ranked_of (stored i))))
     in
-    look_gives (board_in f board) (sound-of board f (keeps g)) (vec_items board.walk.ranked) board.walk.stage os (found_of board f (keeps g) c.in_ok-found.ensures.0) c.args.bus
+    Gives-look (board_in f board) (Sound-board_in board f (keeps g)) (vec_items board.walk.ranked) board.walk.stage os (found_of board f (keeps g) c.in_ok-found.ensures.0) c.args.bus
     c.args.message c.row_of-row.result
-    (ap (λ n. look_fault n (vec_items board.network.table.messages) true c.args.bus c.args.message) (rules_are board f) ∙ c.in_ok-spot.ensures.0)
+    (ap (λ n. look_fault n (vec_items board.network.table.messages) true c.args.bus c.args.message) (length-rules_of f board.network) ∙ c.in_ok-spot.ensures.0)
     (sym same ∙ c.row_of-row.ensures)

@@ -6,7 +6,7 @@ use Rattle.boards.specs.Nets.{leg_at}
 use Rattle.planner.specs.Networks.{net_on}
 use Rattle.planner.specs.Partners.{passes_to}
 use Rattle.planner.specs.Storage.{ranked_of}
-use Rattle.planner.proofs.Destinations.{pairs-by_bus}
+use Rattle.planner.proofs.Destinations.{pairs_of-by_bus}
 use Rattle.planner.proofs.InclusiveRanges.{YieldsList-from_inclusive}
 use Rattle.planner.proofs.network.Network.pairs_pass.Goals as goal
 
@@ -17,4 +17,4 @@ returns g c =
     let range = YieldsList-from_inclusive 1 8 8 c.new.ensures.start c.new.ensures.end c.new.ensures.exhausted refl in
     all_from_yields_List (passes_to net p c.args.message c.args.bus c.args.delay) _ _ c.all.result c.all.ensures.ran range
     (λ x b q k. search (rules, tests))
-    ∙ pairs-by_bus (passes net p (leg_at c.args.bus c.args.message.number) c.args.delay) c.args.message
+    ∙ pairs_of-by_bus (passes net p (leg_at c.args.bus c.args.message.number) c.args.delay) c.args.message

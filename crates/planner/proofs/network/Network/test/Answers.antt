@@ -1,7 +1,7 @@
 use Rattle.bus.specs.Numbered.{member}
 use Rattle.search.specs.Stored.{unranked}
 use Rattle.planner.specs.Storage.{ranked_of}
-use Rattle.planner.proofs.FitOnBoard.{fit-on_board}
+use Rattle.planner.proofs.FitOnBoard.{fit-board}
 use Rattle.planner.proofs.Listed.{message_there, message_number, message_listed}
 use Rattle.planner.proofs.Stands.{stands-on_bus}
 use Rattle.planner.proofs.network.Network.test.Goals as goal
@@ -22,5 +22,5 @@ pub returns : goal.returns
 returns g c =
     let n = c.args.self.now in
     let number = message_number n.table.messages.items c.args.spot.message c.find.result c.find.ensures c.in_ok-message.message c.in_ok-message.was in
-    fit-on_board g.R.BusRule.answer n c.args.ranked.now c.args.spot c.requires (member c.others-above.result.bits) c.others-above.ensures
+    fit-board g.R.BusRule.answer n c.args.ranked.now c.args.spot c.requires (member c.others-above.result.bits) c.others-above.ensures
     c.in_ok-message.message.number number c.fits.result c.fits.ensures

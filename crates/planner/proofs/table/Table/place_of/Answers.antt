@@ -5,7 +5,7 @@ use Rattle.std.proofs.lemmas.List.Sorted.{IsPartitionPoint-from_clause, IsPartit
 use Rattle.std.proofs.lemmas.List.Sums.{prefix_len_is}
 use Rattle.bus.specs.declared.message.Message.{Message}
 use Rattle.planner.specs.Messages.{place_of}
-use Rattle.planner.proofs.Rising.{rising-by_number}
+use Rattle.planner.proofs.Rising.{rising_messages-by_number}
 use Rattle.planner.proofs.table.Table.place_of.Goals as goal
 
 -- as many stand before the place as have smaller numbers at the front
@@ -25,7 +25,7 @@ returns c =
     let n = c.args.number in
     let ms = c.deref.result.now in
     let same : ms ≡ c.args.self.now.messages.items = c.deref.ensures.value in
-    let sorted = IsPartitionedBy-ltb (λ (m : Message). m.number) ms n (rising-by_number ms (rw same c.args.self.now.rises)) in
+    let sorted = IsPartitionedBy-ltb (λ (m : Message). m.number) ms n (rising_messages-by_number ms (rw same c.args.self.now.rises)) in
     let point = IsPartitionPoint-from_clause (λ m. ltb m.number n) ms c.partition_point.result c.partition_point.ensures.partitioned sorted
     (λ a r f k. search (rules, tests)) in
     place_is n ms c.partition_point.result c.partition_point.ensures.bound point ∙ ap (λ l. place_of l n) same

@@ -1,8 +1,9 @@
 -- The message is inserted at its place, and there is room for it.
 use Rattle.std.proofs.Common.{is_ok, ap, ◌∙◌, arith}
+use Rattle.std.specs.List.{list_all}
 use Rattle.boards.specs.Boards.{rising_messages, on_board}
-use Rattle.planner.proofs.Entered.{entered-rises, every-after}
-use Rattle.planner.proofs.Places.{place_of-within, inserted_entered}
+use Rattle.planner.proofs.Entered.{entered-rises, list_all-entered}
+use Rattle.planner.proofs.Places.{place_of-within, entered-inserted}
 use Rattle.planner.proofs.table.Table.put.Goals as goal
 
 pub insert-requires : goal.insert-requires
@@ -12,18 +13,18 @@ pub invariant_of-self : goal.invariant_of-self
 invariant_of-self c =
     let table = c.args.self.now in
     let m = c.args.message in
-    let items = inserted_entered m table.messages.items c.insert.new.self.items c.place_of-at.result (is_ok c.insert.result) table.rises c.requires.free
+    let items = entered-inserted m table.messages.items c.insert.new.self.items c.place_of-at.result (is_ok c.insert.result) table.rises c.requires.free
     c.place_of-at.ensures (λ room. c.insert.ensures.succeeds (omega (arith, table.roomy))) c.insert.ensures.items in
     record {
       few = table.few;
       roomy = omega (arith, c.insert.ensures.capacity, table.roomy);
       rises = ap rising_messages items ∙ entered-rises m table.messages.items table.rises c.requires.free;
-      on_buses = every-after m (on_board table.buses) table.messages.items c.insert.new.self.items items c.requires.on_buses table.on_buses;
+      on_buses = ap (list_all (on_board table.buses)) items ∙ list_all-entered m (on_board table.buses) table.messages.items c.requires.on_buses table.on_buses;
     }
 
 pub returns-clause-items : goal.returns-clause-items
 returns-clause-items c =
     let table = c.args.self.now in
     let m = c.args.message in
-    inserted_entered m table.messages.items c.insert.new.self.items c.place_of-at.result (is_ok c.insert.result) table.rises c.requires.free
+    entered-inserted m table.messages.items c.insert.new.self.items c.place_of-at.result (is_ok c.insert.result) table.rises c.requires.free
     c.place_of-at.ensures (λ room. c.insert.ensures.succeeds (omega (arith, table.roomy))) c.insert.ensures.items

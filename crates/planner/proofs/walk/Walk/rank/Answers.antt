@@ -1,7 +1,7 @@
 use Rattle.std.proofs.Common.{arith}
 use Rattle.planner.specs.Stages.{spot_leg}
 use Rattle.planner.proofs.BoardRoom.{room_for_one}
-use Rattle.planner.proofs.Pushed.{pushed_full}
+use Rattle.planner.proofs.Pushed.{first_open-pushed}
 use Rattle.planner.proofs.Stands.{stands-open, stands-placed}
 use Rattle.planner.proofs.walk.Walk.rank.Goals as goal
 
@@ -18,5 +18,5 @@ push_reserved-requires c =
 pub upward-self-requires-clause-full : goal.upward-self-requires-clause-full
 upward-self-requires-clause-full c =
     let t = c.args.table.now in
-    pushed_full t.buses t.messages.items c.args.self.now.ranked.items c.args.spot c.requires c.args.delay c.deref.result.now
+    first_open-pushed t.buses t.messages.items c.args.self.now.ranked.items c.args.spot c.requires c.args.delay c.deref.result.now
     c.push_reserved.new.self.items c.deref.ensures.value c.push_reserved.ensures.items

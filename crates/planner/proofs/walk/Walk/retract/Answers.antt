@@ -3,13 +3,13 @@ use Rattle.search.specs.Stored.{Stage, retract}
 use Rattle.boards.specs.Nets.{leg_at}
 use Rattle.planner.specs.Storage.{ranked_of}
 use Rattle.planner.specs.Stages.{layout}
-use Rattle.planner.proofs.TakenBack.{taken-placed, taken-open, taken-to}
+use Rattle.planner.proofs.TakenBack.{placed-taken, open_legs-taken, resume-taken}
 use Rattle.planner.proofs.walk.Walk.retract.Goals as goal
 
 pub after_ranked-requires : goal.after_ranked-requires
 after_ranked-requires c =
     let some = c.loop-leg.invariant.0 in
-    taken-open c.args.table.now.messages.items c.loop-leg.self.ranked.items c.pop.new.self.items c.in-Some.leg c.in-Some.ensures.items some.0 some.1
+    open_legs-taken c.args.table.now.messages.items c.loop-leg.self.ranked.items c.pop.new.self.items c.in-Some.leg c.in-Some.ensures.items some.0 some.1
     c.deref.result.now c.deref.ensures.value
 
 pub returns-in-Some-after_ranked : goal.returns-in-Some-after_ranked
@@ -17,7 +17,7 @@ returns-in-Some-after_ranked c count k =
     let ms = c.args.table.now.messages.items in
     let so = c.loop-leg.invariant.1 count k in
     ap (λ (w : Stage). Some w)
-    (taken-to ms c.loop-leg.self.ranked.items c.pop.new.self.items c.in-Some.leg c.in-Some.ensures.items count so.0 c.deref.result.now
+    (resume-taken ms c.loop-leg.self.ranked.items c.pop.new.self.items c.in-Some.leg c.in-Some.ensures.items count so.0 c.deref.result.now
     c.deref.ensures.value (Some (leg_at c.in-Some.leg.bus c.in-Some-after_ranked.message)) (c.in-Some-after_ranked.ensures count)
     (retract (layout count ms) (ranked_of c.args.self.now.ranked.items)) so.1)
 
@@ -29,11 +29,11 @@ loop-leg-preserved c =
     let leg = c.in-Some.leg in
     let items = c.in-Some.ensures.items in
     let some = c.loop-leg.invariant.0 in (
-      (some.0, taken-placed ms all rs leg items some.0 some.1),
+      (some.0, placed-taken ms all rs leg items some.0 some.1),
       λ count k.
           let so = c.loop-leg.invariant.1 count k in (
-            taken-placed ms all rs leg items count so.0,
-            taken-to ms all rs leg items count so.0 c.deref.result.now c.deref.ensures.value None (c.in_default-after_ranked.ensures count)
+            placed-taken ms all rs leg items count so.0,
+            resume-taken ms all rs leg items count so.0 c.deref.result.now c.deref.ensures.value None (c.in_default-after_ranked.ensures count)
                 (retract (layout count ms) (ranked_of c.args.self.now.ranked.items)) so.1,
           ),
     )
