@@ -2,7 +2,7 @@
 ghost use Rattle.std.specs.Prelude.{ℕ};
 ghost use Rattle.bus.specs.Range.{In, bridge_times};
 
-// No Clone: a derive makes none over a ghost field, and nothing here clones a rule.
+// No Clone: no derive makes one for a struct with a type parameter and a ghost field, and nothing here clones a rule.
 #[derive(PartialEq, Eq, Debug, Drop)]
 pub struct Bridge<R> {
     pub inner: R,

@@ -4,7 +4,7 @@ ghost use Rattle.bus.specs.Numbered.{member};
 ghost use Rattle.bus.specs.Range.{inside, numbers};
 
 // The number k, from 1 to 64, is the bit of value 2^(k-1).
-#[derive(Clone, Copy, PartialEq, Eq, Default, Debug)]
+#[derive(Clone, Copy, PartialEq, Eq, Debug)]
 pub struct LegSet {
     pub bits: u64,
 }

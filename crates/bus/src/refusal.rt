@@ -5,7 +5,7 @@ ghost use Rattle.bus.specs.Refusals.{number_of, said};
 use std::error::Error;
 use std::fmt;
 
-#[derive(Clone, Copy, PartialEq, Eq, PartialOrd, Ord, Debug)]
+#[derive(Clone, Copy, PartialEq, Eq, Debug)]
 pub enum Refusal {
     // a line of a sheet breaks the form
     Form = 1,
@@ -32,6 +32,7 @@ pub enum Refusal {
 }
 
 impl Refusal {
+    // The number that the rules give it. By name and not by From, since a call that asks for the number says so.
     pub fn number(self) -> u8
         ensures { result ≡ number_of self }
     {

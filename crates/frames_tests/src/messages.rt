@@ -18,7 +18,7 @@ fn plain() -> Entry {
     }
 }
 
-// The refusal's number, 0 where the message is made.
+// The refusal's number, 0 where the message is made. By number, as the rules say what is refused.
 fn outcome(entry: Entry) -> u8 {
     Message::try_from(entry)
         .err()

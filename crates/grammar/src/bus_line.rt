@@ -6,7 +6,7 @@ pub struct BusLine {
     pub kind: Kind,
     // the nominal bit time
     pub bit: u64,
-    // the bit time of the data phase; 0 on classic CAN
+    // the bit time of the data phase; 0 on classic CAN. A number and no Option, since a line says its numbers by place, whatever the kind
     pub fast: u64,
     // the time that the bridge adds
     pub bridge: u64,

@@ -11,7 +11,7 @@ use planner::board::Board;
 use planner::rows::{Margin, Row, Spot};
 use std::alloc::{AllocError, Global};
 
-// Beside give_check: only the lending is alike; the calls and their answers are not.
+// Beside give_check: only the lending is alike; the calls and their answers are not. A match, since both cases become an answer.
 fn give_list<R: BusRule>(
     heap: Global,
     board: &Board<'_, R>,
@@ -29,6 +29,7 @@ fn give_list<R: BusRule>(
     }
 }
 
+// A match, as in give_list: both cases become an answer, and the accepted one cuts its rows first.
 fn give_check<R: BusRule>(
     heap: Global,
     board: &Board<'_, R>,

@@ -10,6 +10,7 @@ pub mod Destinations
 pub mod Entered
 pub mod FitOnBoard
 pub mod FoundBoards
+pub mod FoundFirst
 pub mod FreshBoards
 pub mod Fronts
 pub mod InclusiveRanges
@@ -41,6 +42,7 @@ pub mod RankedNumbers
 pub mod RankedOnce
 pub mod Reversed
 pub mod Rising
+pub mod RowBuses
 pub mod RowPlaces
 pub mod RowsAhead
 pub mod Same

@@ -1,5 +1,5 @@
 -- The bus of the next rank: the first, by rising number, that has an open leg.
-use Rattle.std.proofs.Common.{◌≡◌, ℕ, zero, suc, ◌+◌, ◌-◌, ◌<◌, ◌≤◌, true, List, [], ◌∷◌, map, length, Some, None, sym, refl, ap, ◌∙◌, ap₂, add-one, arith}
+use Rattle.std.proofs.Common.{◌≡◌, ℕ, zero, suc, ◌+◌, ◌-◌, true, List, [], ◌∷◌, map, length, Some, None, sym, refl, ap, ◌∙◌, ap₂, arith}
 use Rattle.std.specs.List.{filter}
 use Rattle.bus.specs.declared.message.Message.{Message}
 use Rattle.search.specs.Net.{Leg, Net, has, less, Delays}
@@ -63,43 +63,16 @@ module _ (ms : List Message) (rs : List Ranked) where
       let e : 1 + count - x.bus ≡ count + 1 - x.bus = omega arith in
       open-from r x 1 count m ∙ ap (λ n. first_open (r ∷ rs) (map (net_legs ms) (numbers_from x.bus n))) e
 
--- ---------------------------------------------------------------- bus after bus
-buses_from-more : (count : ℕ) (ms : List Message) (k : ℕ) → k ≤ count → buses_from count ms k ≡ net_legs ms k ∷ buses_from count ms (k + 1)
-buses_from-more count ms k le =
-    let more : count + 1 - k ≡ suc (count - k) = omega arith in
-    let rest : count - k ≡ count + 1 - (k + 1) = omega arith in
-    ap (λ n. map (net_legs ms) (numbers_from k n)) more
-    ∙ ap₂ (λ i n. net_legs ms k ∷ map (net_legs ms) (numbers_from i n)) (sym (add-one k)) rest
-
-buses_from-none : (count : ℕ) (ms : List Message) (k : ℕ) → count < k → buses_from count ms k ≡ []
-buses_from-none count ms k lt =
-    let e : count + 1 - k ≡ 0 = omega arith in
-    ap (λ n. map (net_legs ms) (numbers_from k n)) e
-
 head_of-none : (cs : List Leg) → head_of cs ≡ None → length cs ≡ 0
 head_of-none [] e = refl
 head_of-none (c ∷ cs) e = grind arith
 
-candidates-none : (net : Net) (p : Delays) (l : List Leg) → head_of (candidates net p l) ≡ None → l ≡ []
+-- no leg of the list is left to test
+pub candidates-none : (net : Net) (p : Delays) (l : List Leg) → head_of (candidates net p l) ≡ None → l ≡ []
 candidates-none net p [] e = refl
 candidates-none net p (y ∷ l) e = absurd (omega (arith, candidates-count net p (y ∷ l), head_of-none (candidates net p (y ∷ l)) e))
 
-or_next-candidates : (net : Net) (p : Delays) (l k : List Leg) (x : Leg) → head_of (candidates net p l) ≡ Some x → or_next l k ≡ l
+-- one is
+pub or_next-candidates : (net : Net) (p : Delays) (l k : List Leg) (x : Leg) → head_of (candidates net p l) ≡ Some x → or_next l k ≡ l
 or_next-candidates net p [] k x e = grind arith
 or_next-candidates net p (y ∷ l) k x e = refl
-
-module _ (count : ℕ) (ms : List Message) (rs : List Ranked) (k : ℕ) (net : Net) (p : Delays) (within : k ≤ count) where
-  -- no leg of the bus is left to test
-  pub first_open-full : head_of (candidates net p (filter (unranked rs) (net_legs ms k))) ≡ None →
-      first_open rs (buses_from count ms k) ≡ first_open rs (buses_from count ms (k + 1))
-  first_open-full e =
-      ap (first_open rs) (buses_from-more count ms k within)
-      ∙ ap (λ (l : List Leg). or_next l (first_open rs (buses_from count ms (k + 1)))) (candidates-none net p _ e)
-
-  -- one is
-  pub first_open-here : (x : Leg) → head_of (candidates net p (filter (unranked rs) (net_legs ms k))) ≡ Some x →
-      first_open rs (buses_from count ms k) ≡ filter (unranked rs) (net_legs ms k)
-  first_open-here x e = ap (first_open rs) (buses_from-more count ms k within) ∙ or_next-candidates net p (filter (unranked rs) (net_legs ms k)) _ x e
-
-pub first_open-none : (count : ℕ) (ms : List Message) (rs : List Ranked) (k : ℕ) → count < k → first_open rs (buses_from count ms k) ≡ []
-first_open-none count ms rs k lt = ap (first_open rs) (buses_from-none count ms k lt)

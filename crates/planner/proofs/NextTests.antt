@@ -1,5 +1,5 @@
 -- What is tested next on a board, by its ranked legs alone: above them, and where the latest of them is taken back.
-use Rattle.std.proofs.Common.{◌≡◌, ℕ, ◌+◌, ◌<◌, ◌≤◌, Bool, true, false, cond, List, [], ◌∷◌, Some, None, Option, sym, refl, ap, ◌∙◌, arith}
+use Rattle.std.proofs.Common.{◌≡◌, ℕ, Bool, true, false, cond, List, [], ◌∷◌, map, Some, None, Option, sym, refl, ap, ◌∙◌, arith}
 use Rattle.std.specs.List.{filter}
 use Rattle.bus.specs.declared.message.Message.{Message}
 use Rattle.search.specs.Net.{Leg, has, Delays}
@@ -21,14 +21,15 @@ use Rattle.search.specs.Stored.{
   stored,
   unranked,
   first_open,
+  or_next,
   placed,
 }
 use Rattle.search.proofs.Filled.{open-as_stored, at-as_stored, tests-as_stored}
 use Rattle.search.proofs.Place.{was_open, placed_below}
 use Rattle.boards.specs.Nets.{net_legs, bus_numbers}
 use Rattle.boards.proofs.Buses.{buses-apart}
-use Rattle.planner.specs.Stages.{layout, buses_from, after_ranked}
-use Rattle.planner.proofs.NextBus.{open-its_bus, first_open-full, first_open-here, first_open-none}
+use Rattle.planner.specs.Stages.{layout, after_ranked}
+use Rattle.planner.proofs.NextBus.{open-its_bus, or_next-candidates, candidates-none}
 
 but_for-resume : (t : Bool) (rs : List Ranked) (o : Option Leg) (b : Stage) → but_for t b (resume rs o b) ≡ resume rs (cond t None o) b
 but_for-resume true rs o b = refl
@@ -48,23 +49,24 @@ module _ (count : ℕ) (ms : List Message) (rs : List Ranked) (k : placed (layou
       ap (upwards (layout count ms) rs) (open_on-board ∙ e)
       ∙ ap (λ (o : Option Leg). resume rs o (retract (layout count ms) rs)) first
 
-  -- The first test above the ranked legs, where no bus before this one has an open leg: it is of a leg of this bus, or of a later one;
+  -- The first test above the ranked legs, where no bus before the next ones has an open leg: it is of a leg of the next bus, or of a later one;
   -- past the last bus there is none.
-  module _ (bus : ℕ) (so : first_open rs (layout count ms).buses ≡ first_open rs (buses_from count ms bus)) where
-    pub upwards-here : bus ≤ count → (x : Leg) →
-        Some x ≡ head_of (candidates (layout count ms) (stored rs) (filter (unranked rs) (net_legs ms bus))) →
+  module _ (bus : ℕ) (ks : List ℕ) (so : first_open rs (layout count ms).buses ≡ first_open rs (map (net_legs ms) (bus ∷ ks))) where
+    pub upwards-here : (x : Leg) → Some x ≡ head_of (candidates (layout count ms) (stored rs) (filter (unranked rs) (net_legs ms bus))) →
         Some (testing rs x) ≡ Some (upwards (layout count ms) rs (place_of (layout count ms) rs).open')
-    upwards-here within x first =
-        let here = so ∙ first_open-here count ms rs bus (layout count ms) (stored rs) within x (sym first) in
+    upwards-here x first =
+        let here = so ∙ or_next-candidates (layout count ms) (stored rs) (filter (unranked rs) (net_legs ms bus)) _ x (sym first) in
         ap (λ (w : Stage). Some w) (sym (upwards-found (filter (unranked rs) (net_legs ms bus)) x here (sym first)))
 
-    pub first_open-later : bus ≤ count → None ≡ head_of (candidates (layout count ms) (stored rs) (filter (unranked rs) (net_legs ms bus))) →
-        first_open rs (layout count ms).buses ≡ first_open rs (buses_from count ms (bus + 1))
-    first_open-later within none = so ∙ first_open-full count ms rs bus (layout count ms) (stored rs) within (sym none)
+    pub first_open-later : None ≡ head_of (candidates (layout count ms) (stored rs) (filter (unranked rs) (net_legs ms bus))) →
+        first_open rs (layout count ms).buses ≡ first_open rs (map (net_legs ms) ks)
+    first_open-later none =
+        so ∙ ap (λ (l : List Leg). or_next l (first_open rs (map (net_legs ms) ks)))
+        (candidates-none (layout count ms) (stored rs) (filter (unranked rs) (net_legs ms bus)) (sym none))
 
-    pub upwards-past : count < bus → Some (complete rs) ≡ Some (upwards (layout count ms) rs (place_of (layout count ms) rs).open')
-    upwards-past past =
-        ap (λ (l : List Leg). Some (upwards (layout count ms) rs l)) (sym (open_on-board ∙ so ∙ first_open-none count ms rs bus past))
+  pub upwards-past : first_open rs (layout count ms).buses ≡ [] →
+      Some (complete rs) ≡ Some (upwards (layout count ms) rs (place_of (layout count ms) rs).open')
+  upwards-past so = ap (λ (l : List Leg). Some (upwards (layout count ms) rs l)) (sym (open_on-board ∙ so))
 
   module _ (x : Leg) (on : has x (place_of (layout count ms) rs).open' ≡ true) where
     pub open-beside : first_open rs (layout count ms).buses ≡ filter (unranked rs) (net_legs ms x.bus)

@@ -1,5 +1,5 @@
 -- The open legs of a bus, one message after another.
-use Rattle.std.proofs.Common.{◌≡◌, ℕ, ◌+◌, ◌<◌, Bool, true, false, cond, ◌&&◌, eqb, List, ◌∷◌, ◌++◌, map, length, get_or, drop, is_some, Some, None, Option, refl, ◌∙◌}
+use Rattle.std.proofs.Common.{◌≡◌, ℕ, Bool, true, false, cond, ◌&&◌, eqb, List, ◌∷◌, ◌++◌, map, is_some, Some, None, Option, refl}
 use Rattle.std.specs.List.{filter}
 use Rattle.std.specs.Option.{option_to_list}
 use Rattle.bus.specs.Legs.{legs_on}
@@ -11,7 +11,6 @@ use Rattle.search.specs.Stored.{unranked}
 use Rattle.boards.specs.Nets.{leg_at, net_leg}
 use Rattle.planner.specs.Storage.{ranked_of, open_legs, is_open}
 use Rattle.planner.specs.declared.ranked.Ranked.{Ranked}
-use Rattle.planner.proofs.Turns.{drop-turn}
 
 -- the leg of a message on a bus, by whether the bus is its source, and whether it is a destination
 abbrev pub leg_by : Message → Bool → Bool → Option BusLeg
@@ -30,9 +29,3 @@ module _ (rs : List Ranked) (bus : ℕ) where
   pub open_legs-first : (m : Message) (ms : List Message) →
       open_legs (m ∷ ms) rs bus ≡ cond (is_open rs bus m) (leg_at bus m.number ∷ open_legs ms rs bus) (open_legs ms rs bus)
   open_legs-first m ms = leg_by-kept bus (unranked (ranked_of rs)) m (legs_on ms bus) (eqb bus m.source) (member m.destinations bus)
-
-  pub open_legs-more : (ms : List Message) (i : ℕ) (m : Message) → i < length ms → m ≡ get_or ms i m →
-      open_legs (drop i ms) rs bus
-      ≡ cond (is_open rs bus m) (leg_at bus m.number ∷ open_legs (drop (i + 1) ms) rs bus) (open_legs (drop (i + 1) ms) rs bus)
-  open_legs-more ms i m within read =
-      drop-turn (λ l. open_legs l rs bus) ms i m within read ∙ open_legs-first m (drop (i + 1) ms)

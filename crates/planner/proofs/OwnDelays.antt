@@ -1,10 +1,9 @@
 -- A delay in whatever orders is at most the deadline of its message, and so at most ten seconds.
-use Rattle.std.proofs.Common.{◌≡◌, ℕ, zero, suc, ◌≤◌, Bool, true, false, cond, eqb, List, [], ◌∷◌, Some, None, Option, sym, refl, ap, ◌∙◌, inl, inr, arith}
+use Rattle.std.proofs.Common.{◌≡◌, ℕ, ◌≤◌, Bool, true, false, cond, eqb, List, [], ◌∷◌, Some, None, Option, sym, refl, ap, ◌∙◌, inl, inr, arith}
 use Rattle.std.specs.List.{AllByRecursion}
 use Rattle.std.proofs.lemmas.Bool.{cond-true, cond-false, cases_Bool}
 use Rattle.bus.specs.Legs.{leg_on, leg_of, legs_on}
 use Rattle.bus.specs.Numbered.{member}
-use Rattle.bus.specs.Rules.{Meaning, Bounded, Absent}
 use Rattle.bus.specs.declared.leg.Leg.{Leg as BusLeg}
 use Rattle.bus.specs.declared.message.Message.{Message}
 use Rattle.search.specs.Deadlines.{delay_in, delays}

@@ -1,4 +1,4 @@
--- How far the walk has come by what the board stores, as the mathematics of the walk has it. No public contract cites this file.
+-- How far the walk has come by what the board stores, as the mathematics of the walk has it. No call of a board cites this file.
 use Rattle.std.specs.Prelude.{◌≡◌, codes, ℕ, ◌+◌, ◌-◌, Bool, true, false, cond, List, [], map, Some, None, Option}
 use Rattle.std.specs.List.{flat_map}
 use Rattle.bus.specs.declared.message.Message.{Message}

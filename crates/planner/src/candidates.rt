@@ -43,7 +43,7 @@ impl Table {
             .or_else(|| self.next_such(ranked, bus, 0, false))
     }
 
-    // The leg to be tested after that of the message, which is open on the bus.
+    // The leg to be tested after that of the message, which is open on the bus: a fact in contracts and in no type, as walking.rt says.
     pub(crate) fn next_candidate(&self, ranked: &[Ranked], bus: u8, message: Message) -> Option<u8>
         requires listed { message_of self.now.messages.items message.number ≡ Some message }
         requires open { has (leg_at bus message.number) (open_legs self.now.messages.items ranked.now bus) ≡ true }

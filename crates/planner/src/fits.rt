@@ -50,7 +50,7 @@ impl<'a, R: BusRule> Network<'a, R> {
     fn least_delay(&self, ranked: &[Ranked], bus: u8, number: u8) -> Option<u64>
         ensures { result ≡ least_of (rules_of R.BusRule.answer self.now) self.now.table.messages.items (stored (ranked_of ranked.now)) (leg_at bus number) }
     {
-        // A match: in a method over any rule, the proof does not learn what a closure under `or_else` returns.
+        // A match: `or_else` was tried, and in a method over any rule the proof does not learn what its closure returns.
         match delay_of(ranked, bus, number) {
             Some(delay) => Some(delay),
             None => self.delay_on(bus, number, LegSet::empty()),
@@ -73,7 +73,7 @@ impl<'a, R: BusRule> Network<'a, R> {
             return true;
         }
         let partner = partner_bus(message, bus, destination);
-        // Where the other leg can have no delay, this one fits at no rank that is tested now.
+        // Where the other leg can have no delay, this one does not fit. A `let else`: through `is_some_and` the proof did not close.
         let Some(least) = self.least_delay(ranked, partner, message.number) else {
             return false;
         };

@@ -73,7 +73,8 @@ impl<'b, 'a, R: BusRule> Found<'b, 'a, R> {
         ensures end { result ≡ at + length (order_on self.now.ranked.now bus) }
         ensures rows { rows.new ≡ take at rows.old ++ (rows_in (net_on R.BusRule.answer self.now.network.now) bus (order_on self.now.ranked.now bus) ++ drop result rows.old) }
     {
-        // A loop: in a method over any rule, the check fails at a `for` over a chain with a closure.
+        // A loop over all ranked legs: through a chain that keeps those of the bus, tried in a method over any rule, the check fails. What it
+        // shares with find_row is in Seen and row_below; this one writes, that one searches.
         let mut seen = Seen::none();
         for leg in self.ranked.iter().rev() {
             self.write_leg(*leg, bus, seen, rows, at);
@@ -88,6 +89,7 @@ impl<'b, 'a, R: BusRule> Found<'b, 'a, R> {
         ensures count { result ≡ length (rows_of (net_on R.BusRule.answer self.now.network.now) (orders_of (net_on R.BusRule.answer self.now.network.now) (ranked_of self.now.ranked.now))) }
         ensures rows { rows.new ≡ rows_of (net_on R.BusRule.answer self.now.network.now) (orders_of (net_on R.BusRule.answer self.now.network.now) (ranked_of self.now.ranked.now)) ++ drop result rows.old }
     {
+        // A place that is carried on, since each bus answers where its rows end.
         let mut at: usize = 0;
         for bus in 1..=self.network.table.buses {
             at = self.write_bus(bus, rows, at);
@@ -100,7 +102,7 @@ impl<'b, 'a, R: BusRule> Found<'b, 'a, R> {
         requires { (1 ≤ spot.bus) × (spot.bus ≤ self.now.network.now.table.buses) }
         ensures { result ≡ row_at spot.bus spot.message (rows_of (net_on R.BusRule.answer self.now.network.now) (orders_of (net_on R.BusRule.answer self.now.network.now) (ranked_of self.now.ranked.now))) }
     {
-        // A loop, since it counts and gathers while it searches.
+        // A loop: it counts and gathers while it searches, and a chain would go over the legs twice.
         let mut seen = Seen::none();
         for leg in self.ranked.iter().rev() {
             if leg.is_leg(spot.bus, spot.message) {

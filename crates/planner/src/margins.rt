@@ -53,7 +53,7 @@ impl Table {
 fn above_in(rows: &[Spot], bus: u8, message: u8) -> Option<LegSet>
     ensures { MatchOption result (has (leg_at bus message) (down_in rows.now bus) ≡ false) (λ s. (has (leg_at bus message) (down_in rows.now bus) ≡ true) × ((k : ℕ) → member s.bits k ≡ (inside numbers k && has (leg_at bus k) (ahead (leg_at bus message) (down_in rows.now bus))))) }
 {
-    // A loop, since it gathers while it searches.
+    // A loop: it gathers while it searches, and a chain would go over the rows twice.
     let mut above = LegSet::empty();
     for row in rows {
         if row.bus == bus {
@@ -135,7 +135,8 @@ impl<'b, 'a, R: BusRule> Orders<'b, 'a, R> {
         requires { length (destinations_of message) ≤ length margins.old }
         ensures { Written (map (pair_row (net_on R.BusRule.answer self.now.network.now) (orders_in self.now.network.now.table.buses self.now.rows.now) message) (destinations_of message)) margins.old margins.new result }
     {
-        // A loop that counts: in a method over any rule, the check fails at a `for` over a chain with a closure.
+        // A loop that counts: a `for` over the destinations by filter and enumerate was tried, and in a method over any rule the check fails at
+        // such a closure.
         let mut count: usize = 0;
         for destination in 1..=8 {
             if message.goes_to(destination) {
@@ -164,6 +165,7 @@ impl<'b, 'a, R: BusRule> Orders<'b, 'a, R> {
         ensures met { result.0 ≡ all_met (net_on R.BusRule.answer self.now.network.now) (orders_in self.now.network.now.table.buses self.now.rows.now) }
         ensures rows { Written (margin_rows (board_on R.BusRule.answer self.now.network.now) (orders_in self.now.network.now.table.buses self.now.rows.now)) margins.old margins.new result.1 }
     {
+        // A place that is carried on, since each message answers how many rows it took.
         let mut count: usize = 0;
         for message in &self.network.table.messages {
             count += self.write_message(*message, &mut margins[count..]);

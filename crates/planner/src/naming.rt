@@ -15,15 +15,8 @@ impl Table {
     fn by_bus(&self, rows: &[Spot]) -> bool
         ensures { result ≡ by_bus 1 self.now.buses rows.now }
     {
-        // A loop, since each row is held to the one before.
-        let mut low: u8 = 1;
-        for row in rows {
-            if !(low..=self.buses).contains(&row.bus) {
-                return false;
-            }
-            low = row.bus;
-        }
-        true
+        rows.iter().all(|row| (1..=self.buses).contains(&row.bus))
+            && rows.is_sorted_by_key(|row| row.bus)
     }
 
     // Whether the message with this number has a leg on the bus that is not yet seen.
@@ -45,7 +38,7 @@ impl Table {
     fn is_order(&self, rows: &[Spot], bus: u8) -> bool
         ensures { result ≡ is_order (order_in rows.now bus) (net_legs self.now.messages.items bus) }
     {
-        // A loop, since each row is held to all that are seen before.
+        // A loop: each row is held to all that are seen before, and a chain would have to carry them.
         let mut seen = LegSet::empty();
         for row in rows {
             if row.bus == bus {

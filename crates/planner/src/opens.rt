@@ -32,13 +32,12 @@ impl Table {
     pub(crate) fn others(&self, ranked: &[Ranked], bus: u8, number: u8) -> LegSet
         ensures { (k : ℕ) → member result.bits k ≡ has (leg_at bus k) (less (leg_at bus number) (open_legs self.now.messages.items ranked.now bus)) }
     {
-        // A loop: as a fold of the set it reads no plainer.
-        let mut set = LegSet::empty();
-        for message in &self.messages {
-            if is_other(ranked, *message, bus, number) {
-                set = set.with(message.number);
-            }
-        }
-        set
+        self.messages
+            .iter()
+            .filter(|message| is_other(ranked, **message, bus, number))
+            .fold(
+                LegSet::empty(),
+                |set: LegSet, message| set.with(message.number),
+            )
     }
 }

@@ -9,7 +9,7 @@ pub(crate) struct Ranked {
 }
 
 impl Ranked {
-    // Whether it is the leg of this message on this bus.
+    // Whether it is the leg of this message on this bus. No derived equality: bus and message come apart, and the delay does not count.
     pub(crate) fn is_leg(&self, bus: u8, message: u8) -> bool
         ensures { result ≡ (self.now.bus == bus && self.now.message == message) }
     {

@@ -1,5 +1,6 @@
 // Reading the ranked legs: the delay with which a leg is ranked, whether a leg is ready. Bus and number are given apart here and elsewhere,
-// and not as a Spot: callers hold one of them fixed and go through the other.
+// and not as a Spot: most callers hold one of them fixed, and would make a Spot for each call. Nor are the ranked legs, a message
+// and a bus one value: the first are the walk's, the second the table's, and the third goes through the buses.
 ghost use Rattle.std.specs.Prelude.{◌≡◌};
 ghost use Rattle.std.specs.List.{list_all};
 ghost use Rattle.search.specs.Stored.{stored};

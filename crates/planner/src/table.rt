@@ -77,7 +77,7 @@ impl Table {
         ensures few { result ≤ length self.now.messages.items }
         ensures legs { take result legs.new ≡ legs_on self.now.messages.items bus }
     {
-        // A loop that counts: the count is the place of the next leg, and then the answer.
+        // A loop that counts: the count is the place of the next leg and then the answer, and a chain would go over the messages twice.
         let mut count: usize = 0;
         for message in &self.messages {
             if let Some(leg) = message.leg_on(bus) {

@@ -23,19 +23,23 @@ use bus::rule::BusRule;
 use std::alloc::{AllocError, Global};
 
 impl Table {
+    // The first leg to be tested at the lowest free rank of the bus, with the bus.
+    fn first_spot(&self, ranked: &[Ranked], bus: u8) -> Option<Spot>
+        ensures { option_map spot_leg result ≡ head_of (candidates (layout self.now.buses self.now.messages.items) (stored (ranked_of ranked.now)) (open_legs self.now.messages.items ranked.now bus)) }
+    {
+        self.first_candidate(ranked, bus)
+            .map(|message| Spot { bus, message })
+    }
+
     // The first test above the ranked legs, where the buses before `from` are full.
     pub(crate) fn upward(&self, ranked: &[Ranked], from: u8) -> Stage
         requires stands { placed (layout self.now.buses self.now.messages.items) (ranked_of ranked.now) ≡ true }
         requires full { first_open (ranked_of ranked.now) (layout self.now.buses self.now.messages.items).buses ≡ first_open (ranked_of ranked.now) (buses_from self.now.buses self.now.messages.items from) }
         ensures { reached ranked.now result ≡ Some (upwards (layout self.now.buses self.now.messages.items) (ranked_of ranked.now) (place_of (layout self.now.buses self.now.messages.items) (ranked_of ranked.now)).open') }
     {
-        // A loop: as a search for the first bus and then its stage it reads no plainer.
-        for bus in from..=self.buses {
-            if let Some(message) = self.first_candidate(ranked, bus) {
-                return Stage::Testing(Spot { bus, message });
-            }
-        }
-        Stage::Complete
+        (from..=self.buses)
+            .find_map(|bus| self.first_spot(ranked, bus))
+            .map_or(Stage::Complete, Stage::Testing)
     }
 
     // The leg to be tested next where this one was the latest to be ranked; None where it was ready.

@@ -1,25 +1,15 @@
-use Rattle.std.proofs.Common.{◌≡◌, ◌<◌, length, get_or, sym, ap, ◌∙◌, arith}
-use Rattle.bus.specs.Numbered.{member}
-use Rattle.bus.specs.declared.leg_set.LegSet.{LegSet}
-use Rattle.planner.proofs.Others.{among_others-put, among_others-kept}
-use Rattle.planner.proofs.table.Table.others.Goals.{then-is_other, else-is_other}
+use Rattle.std.proofs.Common.{◌∙◌, filter, rules, tests}
+use Rattle.std.proofs.lemmas.Iterator.{YieldsList-from_slice}
+use Rattle.std.proofs.lemmas.Iterator.Consumers.{YieldsList-from_filter}
+use Rattle.planner.proofs.Others.{is_other, Gathers, others-open, gathers_from_fold}
 use Rattle.planner.proofs.table.Table.others.Goals as goal
 
-pub loop-message-preserved : goal.loop-message-preserved
-loop-message-preserved c =
+pub returns : goal.returns
+returns c =
     let ms = c.args.self.now.messages.items in
-    let i = c.loop-message.message-index in
-    let m = c.message-item.result in
-    let within : i < length ms = omega (arith, ap length c.deref-message-items.ensures.value) in
-    let read : m ≡ get_or ms i m = c.message-item.is ∙ ap (λ xs. get_or xs i m) c.deref-message-items.ensures.value in
-    λ k.
-    elim c.if-is_other.branch [
-      | then-is_other w ↦
-          among_others-put ms c.args.ranked.now c.args.bus c.args.number k i m within read
-          (member c.loop-message.set.bits k) (member c.if-is_other.set.bits k) (c.loop-message.invariant k)
-          (sym c.is_other.ensures ∙ w.if-is_other.true) (ap (λ (s : LegSet). member s.bits k) w.set-is ∙ w.with-set.ensures k)
-      | else-is_other w ↦
-          among_others-kept ms c.args.ranked.now c.args.bus c.args.number k i m within read
-          (member c.loop-message.set.bits k) (member c.if-is_other.set.bits k) (c.loop-message.invariant k)
-          (sym c.is_other.ensures ∙ w.if-is_other.false) (ap (λ (s : LegSet). member s.bits k) w.set-is)
-    ]
+    let test = is_other c.args.ranked.now c.args.bus c.args.number in
+    let gathered : Gathers (filter test ms) c.fold.result =
+    gathers_from_fold _ _ c.empty.result c.fold.result c.fold.ensures.ran
+    (YieldsList-from_filter _ test (YieldsList-from_slice ms cc) c.filter.ensures.closure (λ x r q k. search (rules, tests)))
+    c.empty.ensures (λ x a b q k. search rules) in
+    λ k. gathered k ∙ others-open c.args.ranked.now c.args.bus c.args.number k ms
