@@ -1,4 +1,4 @@
--- One Leads-turn of a run: one more line at the end of a log.
+-- One turn of a run: one more line at the end of a log.
 use Rattle.std.proofs.Common.{◌≡◌, ◌<◌, List, [], ◌∷◌, ◌++◌, length, get_or, sym, refl, ap, ◌∙◌, subst, arith}
 use Rattle.planner.specs.Logs.{Gives}
 use Rattle.planner.specs.Standing.{Standing}

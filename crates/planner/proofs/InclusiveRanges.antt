@@ -1,4 +1,4 @@
--- What a chain over `a..=b` AlwaysYields-from_inclusive: the numbers from a to b.
+-- What a chain over `a..=b` gives: the numbers from a to b.
 use Rattle.std.proofs.Common.{◌≡◌, ℕ, zero, suc, ◌+◌, ◌-◌, true, false, ap, ◌∙◌, inl, inr, add-one, arith}
 use Rattle.std.specs.Iterator.{AlwaysYields}
 use Rattle.std.specs.declared.ops.RangeInclusive.{RangeInclusive}

@@ -15,7 +15,7 @@ pub same-bus : (a b n : ℕ) → same (leg_at a n) (leg_at b n) ≡ eqb a b
 unfolding same
 same-bus a b n = grind (arith, nat_tests)
 
--- the touches-pair_to of a pair, for a leg of its message
+-- whether a pair touches a leg of its message
 pub touches-pair_to : (m : Message) (bus k : ℕ) → touches (leg_at bus m.number) (pair_to m k) ≡ (eqb bus m.source || eqb bus k)
 unfolding same
 touches-pair_to m bus k = grind (arith, nat_tests)

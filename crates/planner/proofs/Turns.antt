@@ -1,4 +1,4 @@
--- A drop-turn of a loop over a slice: what a function of the elements from here on comes to, by this element and the others.
+-- A turn of a loop over a slice: what a function of the elements from here on comes to, by this element and the others.
 use Rattle.std.proofs.Common.{◌≡◌, ℕ, ◌+◌, ◌<◌, List, ◌∷◌, length, get_or, drop, sym, ap, ◌∙◌}
 use Rattle.std.proofs.lemmas.List.{at_drop_more}
 
