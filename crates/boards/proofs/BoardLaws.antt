@@ -1,5 +1,5 @@
 -- The theorems of the walk, for every board.
-use Rattle.std.proofs.Common.{◌≡◌, true, false, List, [], ◌∷◌, map, get_or, refl, ap, ◌∙◌, arith}
+use Rattle.std.proofs.Common.{◌≡◌, Bool, true, false, cond, List, [], ◌∷◌, map, get_or, refl, ap, ◌∙◌, arith}
 use Rattle.std.specs.List.{list_all, flat_map, filter, AllByRecursion}
 use Rattle.std.proofs.lemmas.Bool.{eqb-true}
 use Rattle.std.proofs.lemmas.List.Elements.{All-map, filter_agree, recursion_from_All}
@@ -18,6 +18,10 @@ use Rattle.boards.proofs.Buses.{buses-distinct}
 use Rattle.boards.proofs.Lawful.{board-lawful}
 
 -- ---------------------------------------------------------------- where no message crosses
+kept-none : {X : Type 0} (f : X → Bool) → ((x : X) → f x ≡ false) → (xs : List X) → filter f xs ≡ []
+kept-none f h [] = refl
+kept-none f h (x ∷ xs) = ap (λ t. cond t (x ∷ filter f xs) (filter f xs)) (h x) ∙ kept-none f h xs
+
 pub local_no_pairs : (m : Message) → is_local m ≡ true → pairs_of m ≡ []
 local_no_pairs m h =
     ap (λ bits. map (pair_to m) (filter (member bits) (bus_numbers 8))) (eqb-true m.destinations 0 h)

@@ -20,11 +20,20 @@ impl Message {
     pub fn leg_on(self, bus: u8) -> Option<Leg>
         ensures { result ≡ leg_on self bus }
     {
-        let source = bus == self.source;
-        (source || self.goes_to(bus)).then_some(Leg {
-            message: self,
-            source,
-        })
+        // Two `if`s, each with a leg of its own: by `then_some` and by `then` it took longer wherever the leg was kept.
+        if bus == self.source {
+            return Some(Leg {
+                message: self,
+                source: true,
+            });
+        }
+        if self.goes_to(bus) {
+            return Some(Leg {
+                message: self,
+                source: false,
+            });
+        }
+        None
     }
 }
 

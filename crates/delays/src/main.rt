@@ -15,7 +15,6 @@ use frames::carrier::Carrier;
 use frames::equation::Equation;
 use frames::fd::Fd11;
 use legs::legs_on;
-use row::Row;
 use rows::row_of;
 use std::io;
 use trailer::messages;
@@ -29,14 +28,14 @@ fn print_bus<C: Carrier>(
 ) -> io::Result<usize>
     ensures { IfOk result (λ safe. safe ≤ length legs.now) }
 {
-    let rows: Vec<Row> = legs
-        .iter()
-        .map(|leg| row_of(rule, legs, leg.message))
-        .collect(rt.alloc())?;
-    for row in &rows {
+    // A loop that prints and counts: rows gathered first would want memory, and a row is printed whatever memory is left.
+    let mut safe: usize = 0;
+    for leg in legs {
+        let row = row_of(rule, legs, leg.message);
         println!(rt; "{bus} {row}")?;
+        safe += usize::from(row.lowest.0.is_some());
     }
-    Ok(rows.iter().filter(|row| row.lowest.0.is_some()).count())
+    Ok(safe)
 }
 
 // The trailer has a classic bus and a CAN FD bus, both at 500 kbit/s, with 2 Mbit/s in the data phase.

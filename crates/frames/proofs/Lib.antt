@@ -1,2 +1,3 @@
 pub mod FdSums
+pub mod Waits
 pub mod WorkedNumbers

@@ -42,3 +42,9 @@ pub LogKept-from_law : (s : Standing) (rules : List Meaning) (gateway : ℕ) →
 LogKept-from_law s rules gateway e law log t h =
     subst (λ (x : Standing). LogKept x.board.rules x.board.gateway x.board.messages 0 false log) e
     (kept s log t h 0 false (law (lines s log t h) (happened s log t h)))
+
+-- and leads from the start of the walk of a board without messages
+pub log_is_kept : (s : Standing) (rules : List Meaning) (gateway : ℕ) → s ≡ fresh (board_of rules gateway []) →
+    ((ls : List logs.Line) → Happened s ls → LogLaw 0 false ls) → (log : List Line) (t : Standing) → Leads s log t →
+    LogKept rules gateway [] 0 false log × Leads (fresh (board_of rules gateway [])) log t
+log_is_kept s rules gateway e law log t h = (LogKept-from_law s rules gateway e law log t h, subst (λ (x : Standing). Leads x log t) e h)

@@ -1,20 +1,39 @@
 -- What check answers, as a log has it.
-use Rattle.std.proofs.Common.{◌≡◌, ℕ, ◌<◌, ◌≤◌, Bool, true, false, List, take, drop, None, Some, sym, refl, ap, ◌∙◌}
+use Rattle.std.proofs.Common.{◌≡◌, ℕ, ◌<◌, ◌≤◌, Bool, true, false, not, ltb, List, [], ◌∷◌, length, take, drop, None, Some, Option, sym, refl, ap, ◌∙◌, arith}
 use Rattle.std.proofs.lemmas.List.{take_at}
 use Rattle.std.proofs.lemmas.Bool.{lt-ltb, le-ltb}
 use Rattle.bus.specs.declared.message.Message.{Message}
-use Rattle.bus.specs.declared.refusal.Refusal.TheVariants.{FewRows, WrongRows}
+use Rattle.bus.specs.declared.refusal.Refusal.{Refusal}
+use Rattle.bus.specs.declared.refusal.Refusal.TheVariants.{NoMessages, FewRows, WrongRows}
 use Rattle.search.specs.Walk.{Walked}
 use Rattle.boards.specs.Boards.{Board, bus_count}
 use Rattle.boards.specs.Nets.{net_of}
 use Rattle.planner.specs.Checks.{orders_in, named, margin_rows, all_met}
 use Rattle.planner.specs.Logs.{refused, checked, check, margin_count, Gives}
-use Rattle.planner.specs.Refusing.{check_fault, is_none}
+use Rattle.planner.specs.Refusing.{refused_if, check_fault, is_none}
 use Rattle.planner.specs.Spots.{Written}
 use Rattle.planner.specs.Standing.{Standing}
 use Rattle.planner.specs.declared.rows.Margin.{Margin}
 use Rattle.planner.specs.declared.rows.Spot.{Spot}
 use Rattle.planner.proofs.FreshBoards.{Unless-none, Unless-some}
+
+pub none-is_empty : (ms : List Message) → length ms ≡ 0 → is_none ms ≡ true
+none-is_empty [] e = refl
+none-is_empty (m ∷ ms) e = absurd (omega arith)
+
+pub some-are_there : (ms : List Message) → (length ms ≡ 0 → ⊥) → is_none ms ≡ false
+some-are_there [] e = absurd (e refl)
+some-are_there (m ∷ ms) e = refl
+
+-- what is refused, by what the tests say: there are no messages, few rows are lent, the rows are right
+abbrev fault : Bool → Bool → Bool → Option Refusal
+fault empty few right = refused_if empty NoMessages (refused_if few FewRows (refused_if (not right) WrongRows None))
+
+pub check_empty : (b : Board) (l : Walked) (rows : List Spot) (lent : ℕ) → is_none b.messages ≡ true →
+    Gives (record { board = b; left = l }) (check rows lent) (refused NoMessages) (record { board = b; left = l })
+check_empty b l rows lent e =
+    Unless-some _ (record { board = b; left = l }) (record { board = b; left = l }) _ NoMessages
+    (ap (λ t. fault t (ltb lent (margin_count b)) (named (bus_count b) b.messages rows)) e) refl
 
 module _ (ms : List Message) (lent needed : ℕ) (some : is_none ms ≡ false) where
   few : (right : Bool) → lent < needed → check_fault ms right lent needed ≡ Some FewRows

@@ -24,6 +24,36 @@ pub pairs_of-by_bus : (f : Pair → Bool) (m : Message) →
     list_all (λ k. not (member m.destinations k) || f (pair_to m k)) (bus_numbers 8) ≡ list_all f (pairs_of m)
 pairs_of-by_bus f m = list_all-filter f (pair_to m) (member m.destinations) (bus_numbers 8)
 
+-- ---------------------------------------------------------------- a test of every bus, one bus after another
+-- t holds of each bus from i to 8
+unfoldable pub from_bus : (ℕ → Bool) → ℕ → Bool
+from_bus t i = list_all t (numbers_from i (9 - i))
+
+pub pairs-by_bus : (f : Pair → Bool) (m : Message) → from_bus (λ k. not (member m.destinations k) || f (pair_to m k)) 1 ≡ list_all f (pairs_of m)
+unfolding from_bus
+pairs-by_bus f m = pairs_of-by_bus f m
+
+numbers_more : (i n : ℕ) → i < n → numbers_from i (n - i) ≡ i ∷ numbers_from (i + 1) (n - (i + 1))
+numbers_more i n h =
+    let e : n - i ≡ suc (n - (i + 1)) = omega arith in
+    ap (numbers_from i) e ∙ ap (λ k. i ∷ numbers_from k (n - (i + 1))) (rw add-one refl)
+
+-- `all` is what the test comes to
+module _ (t : ℕ → Bool) (i : ℕ) (all : Bool) where
+  turn : i ≤ 8 → from_bus t i ≡ (t i && from_bus t (i + 1))
+  unfolding from_bus
+  turn h = ap (list_all t) (numbers_more i 9 (omega arith))
+
+  pub bus_passed : i ≤ 8 → t i ≡ true → from_bus t i ≡ all → from_bus t (i + 1) ≡ all
+  bus_passed h passed was = sym (turn h ∙ ap (λ b. b && from_bus t (i + 1)) passed) ∙ was
+
+  pub bus_failed : i ≤ 8 → t i ≡ false → from_bus t i ≡ all → false ≡ all
+  bus_failed h failed was = sym (turn h ∙ ap (λ b. b && from_bus t (i + 1)) failed) ∙ was
+
+  pub buses-done : 8 < i → from_bus t i ≡ all → true ≡ all
+  unfolding from_bus
+  buses-done h was = let e : 9 - i ≡ 0 = omega arith in sym (ap (λ n. list_all t (numbers_from i n)) e) ∙ was
+
 -- ---------------------------------------------------------------- a loop over them
 -- the destinations from bus i on
 unfoldable pub destinations_from : Message → ℕ → List ℕ

@@ -39,6 +39,40 @@ module _ (rs : List Ranked) (s : Stage) (start : s ≡ Start) where
       ap (λ (l : Walked). record { board = b; left = l })
       (ap (λ x. walk.left (net_of b) (stage_of (net_of b) rs x)) start ∙ first-stage_has_all (net_of b))
 
+-- a board of these parts with these messages, whose walk is at its start
+module _ {S : Type 0} (f : S → Meaning) (rules : List S) (gateway : ℕ) where
+  abbrev pub begun : List Message → Standing
+  begun ms =
+      record {
+        board = board_of (map f rules) gateway ms;
+        left = walk.left (net_of (board_of (map f rules) gateway ms)) (walk.start_stage (net_of (board_of (map f rules) gateway ms)));
+      }
+
+  pub begun_fresh : (ms : List Message) → begun ms ≡ fresh (board_of (map f rules) gateway ms)
+  begun_fresh ms = λ i. record { board = board_of (map f rules) gateway ms; left = first-stage_has_all (net_of (board_of (map f rules) gateway ms)) i }
+
+  abbrev at : List Message → Walked → Standing
+  at ms l = record { board = board_of (map f rules) gateway ms; left = l }
+
+  pub entered-gives : (ms after : List Message) (l : Walked) (e : Entry) (m : Message) → enter_fault (length rules) ms e ≡ None → Holds e m →
+      after ≡ entered m ms → Gives (at ms l) (enter e) done (begun after)
+  entered-gives ms after l e m none holds put =
+      Unless-none _ (at ms l) done (begun after) _ (ap (λ n. enter_fault n ms e) (length-map rules f) ∙ none)
+      (m, holds, refl, ap begun put ∙ begun_fresh (entered m ms))
+
+  pub enter_refused : (ms : List Message) (l : Walked) (e : Entry) (r : Refusal) → enter_fault (length rules) ms e ≡ Some r →
+      Gives (at ms l) (enter e) (refused r) (at ms l)
+  enter_refused ms l e r some = Unless-some _ (at ms l) (at ms l) _ r (ap (λ n. enter_fault n ms e) (length-map rules f) ∙ some) refl
+
+  pub withdrawn-gives : (ms after : List Message) (l : Walked) (n : ℕ) → withdraw_fault ms n ≡ None → after ≡ withdrawn n ms →
+      Gives (at ms l) (withdraw n) done (begun after)
+  withdrawn-gives ms after l n none took =
+      Unless-none _ (at ms l) done (begun after) _ none (refl, ap begun took ∙ begun_fresh (withdrawn n ms))
+
+  pub withdraw_refused : (ms : List Message) (l : Walked) (n : ℕ) (r : Refusal) → withdraw_fault ms n ≡ Some r →
+      Gives (at ms l) (withdraw n) (refused r) (at ms l)
+  withdraw_refused ms l n r some = Unless-some _ (at ms l) (at ms l) _ r some refl
+
 -- a change that is accepted
 module _ (b : Board) (l : Walked) (ms : List Message) (t : Standing) (new : t ≡ fresh (with_messages b ms)) where
   pub Gives-enter : (e : Entry) (m : Message) → enter_fault (bus_count b) b.messages e ≡ None → Holds e m → ms ≡ entered m b.messages →

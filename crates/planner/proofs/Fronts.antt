@@ -14,6 +14,9 @@ module _ {X : Type 0} where
   pub Writing-none : (all before : List X) → Writing all all before before 0
   Writing-none all before = record { left = omega arith; front = refl; rest = refl }
 
+  pub writing-is : {todo all before now then' : List X} {n k : ℕ} → then' ≡ now → k ≡ n → Writing todo all before now n → Writing todo all before then' k
+  writing-is {todo} {all} {before} {now} {then'} {n} {k} e f w = subst (λ l. Writing todo all before l k) (sym e) (subst (Writing todo all before now) (sym f) w)
+
   drop-further : (n k : ℕ) (xs ys : List X) → drop n xs ≡ drop n ys → drop (n + k) xs ≡ drop (n + k) ys
   drop-further n k xs ys e = sym (drop-drop k n xs) ∙ ap (drop k) e ∙ drop-drop k n ys
 

@@ -1,9 +1,12 @@
 pub mod Above
 pub mod AllRows
+pub mod AmongMessages
 pub mod Attempts
 pub mod Begins
 pub mod BoardFacts
 pub mod BoardRoom
+pub mod BusLoops
+pub mod BusOrder
 pub mod BusRules
 pub mod Checkings
 pub mod Destinations
@@ -40,6 +43,7 @@ pub mod Pushed
 pub mod Rankings
 pub mod RankedNumbers
 pub mod RankedOnce
+pub mod Refused
 pub mod Reversed
 pub mod Rising
 pub mod RowBuses

@@ -3,7 +3,7 @@ use Rattle.std.proofs.Common.{◌≡◌, ℕ, Bool, true, false, eqb, List, [], 
 use Rattle.std.specs.List.{list_all, filter}
 use Rattle.std.proofs.lemmas.Bool.{cases_Bool, eqb-true, cond-true, cond-false, true≢false}
 use Rattle.bus.specs.declared.message.Message.{Message}
-use Rattle.search.specs.Net.{Leg, has}
+use Rattle.search.specs.Net.{Leg, Pair, has, touches, Delays}
 use Rattle.search.specs.Walk.{partnered, ready, candidates}
 use Rattle.search.specs.Stored.{Ranked, behind, head_of, stored}
 use Rattle.search.proofs.Legs.{has_kept}
@@ -30,6 +30,9 @@ message_of-number (y ∷ ms) n m e =
           ap (λ (v : Message). v.number) (sym is) ∙ eqb-true _ _ t
       | inr t ↦ message_of-number ms n m (sym (cond-false _ (Some y) (message_of ms n) t) ∙ e)
     ]
+
+untouched : (p : Delays) (x : Leg) (pr : Pair) → touches x pr ≡ false → partnered p x pr ≡ true
+untouched p x pr e = grind (arith, e)
 
 -- the message that was looked for by the number n, and found
 module _ (ms : List Message) (n : ℕ) (o : Option Message) (answer : o ≡ message_of ms n) (m : Message) (is : o ≡ Some m) where

@@ -1,9 +1,10 @@
 -- What list and look answer, as a log has it.
-use Rattle.std.proofs.Common.{◌≡◌, ℕ, ◌<◌, ◌≤◌, Bool, true, false, not, ◌&&◌, leb, List, ◌++◌, length, take, drop, is_some, Some, None, sym, refl, ap, ◌∙◌}
+use Rattle.std.proofs.Common.{◌≡◌, ℕ, ◌<◌, ◌≤◌, Bool, true, false, not, ◌&&◌, leb, List, ◌++◌, length, take, drop, is_some, Some, None, sym, refl, ap, ◌∙◌, subst}
 use Rattle.std.proofs.lemmas.List.{take_at}
 use Rattle.std.proofs.lemmas.Bool.{and_parts, not-true, not-false, leb-true, lt-ltb, le-ltb, false≢true}
 use Rattle.bus.specs.Range.{inside, buses, numbers}
 use Rattle.bus.specs.declared.message.Message.{Message}
+use Rattle.bus.specs.declared.refusal.Refusal.{Refusal}
 use Rattle.bus.specs.declared.refusal.Refusal.TheVariants.{Range, NoBus, NoLeg, NotFound, FewRows}
 use Rattle.search.specs.Net.{Leg}
 use Rattle.search.specs.Stored as walk
@@ -46,6 +47,22 @@ look_fault-tests count ms bus n e =
       high = leb-true bus count (not-false _ board.0);
       leg = not-false _ leg.0;
     }
+
+-- what an accepted look has tested: with that, that the walk has ended
+pub look_tests : (count : ℕ) (ms : List Message) (found : Bool) (bus n : ℕ) → look_fault count ms found bus n ≡ None → LookTests count ms bus n × (found ≡ true)
+look_tests count ms found bus n e =
+    let range = refused_if-none (not (inside buses bus && inside numbers n)) Range _ e in
+    let board = refused_if-none (not (leb bus count)) NoBus _ range.1 in
+    let leg = refused_if-none (not (is_some (leg_from bus (message_of ms n)))) NoLeg _ board.1 in
+    let end = refused_if-none (not found) NotFound _ leg.1 in
+    let bounds = and_parts (inside buses bus) (inside numbers n) (not-false _ range.0) in (
+      record {
+        low = leb-true 1 bus (and_parts (leb 1 bus) (leb bus 8) bounds.0).0;
+        high = leb-true bus count (not-false _ board.0);
+        leg = not-false _ leg.0;
+      },
+      not-false _ end.0,
+    )
 
 look_fault-unfound : (count : ℕ) (ms : List Message) (bus n : ℕ) → look_fault count ms true bus n ≡ None → look_fault count ms false bus n ≡ Some NotFound
 look_fault-unfound count ms bus n e =
@@ -106,3 +123,20 @@ module _ (b : Board) (sound : Sound b) (rs : List Ranked) where
   Gives-look_not_found s bus n e none =
       Unless-some (look_fault (bus_count b) b.messages (is_some (found_orders (at s))) bus n) (at s) (at s) _ NotFound
       (ap (λ o. look_fault (bus_count b) b.messages (is_some o) bus n) (found_orders-not_found s e) ∙ look_fault-unfound (bus_count b) b.messages bus n none) refl
+
+  -- a look that is refused, where it is known whether the walk has ended with found
+  pub look_refused : (s : Stage) (known : Bool) (bus n : ℕ) (f : Refusal) → is_some (found_orders (at s)) ≡ known →
+      look_fault (bus_count b) b.messages known bus n ≡ Some f → Gives (at s) (look bus n) (refused f) (at s)
+  look_refused s known bus n f e some =
+      Unless-some (look_fault (bus_count b) b.messages (is_some (found_orders (at s))) bus n) (at s) (at s) _ f
+      (ap (λ k. look_fault (bus_count b) b.messages k bus n) e ∙ some) refl
+
+  pub known-found : (s : Stage) → walk.placed_at (net_of b) (stage_of (net_of b) rs s) ≡ true →
+      is_some (found_orders (at s)) ≡ (not (is_none b.messages) && is_complete s)
+  known-found s placed = go (not (is_none b.messages) && is_complete s) refl
+    where
+      go : (t : Bool) → (not (is_none b.messages) && is_complete s) ≡ t → is_some (found_orders (at s)) ≡ t
+      go true e =
+          let done = is_complete-means s (and_parts (not (is_none b.messages)) (is_complete s) e).1 in
+          ap is_some (found_orders-found s e (subst (λ x. walk.placed_at (net_of b) (stage_of (net_of b) rs x) ≡ true) done placed))
+      go false e = ap is_some (found_orders-not_found s e)

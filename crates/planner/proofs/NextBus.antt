@@ -1,5 +1,5 @@
 -- The bus of the next rank: the first, by rising number, that has an open leg.
-use Rattle.std.proofs.Common.{◌≡◌, ℕ, zero, suc, ◌+◌, ◌-◌, true, List, [], ◌∷◌, map, length, Some, None, sym, refl, ap, ◌∙◌, ap₂, arith}
+use Rattle.std.proofs.Common.{◌≡◌, ℕ, zero, suc, ◌+◌, ◌-◌, ◌<◌, ◌≤◌, true, List, [], ◌∷◌, map, length, Some, None, sym, refl, ap, ◌∙◌, ap₂, add-one, arith}
 use Rattle.std.specs.List.{filter}
 use Rattle.bus.specs.declared.message.Message.{Message}
 use Rattle.search.specs.Net.{Leg, Net, has, less, Delays}
@@ -76,3 +76,37 @@ candidates-none net p (y ∷ l) e = absurd (omega (arith, candidates-count net p
 pub or_next-candidates : (net : Net) (p : Delays) (l k : List Leg) (x : Leg) → head_of (candidates net p l) ≡ Some x → or_next l k ≡ l
 or_next-candidates net p [] k x e = grind arith
 or_next-candidates net p (y ∷ l) k x e = refl
+
+-- ---------------------------------------------------------------- bus after bus
+buses-more : (count : ℕ) (ms : List Message) (k : ℕ) → k ≤ count → buses_from count ms k ≡ net_legs ms k ∷ buses_from count ms (k + 1)
+buses-more count ms k le =
+    let more : count + 1 - k ≡ suc (count - k) = omega arith in
+    let rest : count - k ≡ count + 1 - (k + 1) = omega arith in
+    ap (λ n. map (net_legs ms) (numbers_from k n)) more
+    ∙ ap₂ (λ i n. net_legs ms k ∷ map (net_legs ms) (numbers_from i n)) (sym (add-one k)) rest
+
+pub buses-all : (count : ℕ) (ms : List Message) → (layout count ms).buses ≡ buses_from count ms 1
+buses-all count ms =
+    let e : count ≡ count + 1 - 1 = omega arith in
+    ap (λ n. map (net_legs ms) (numbers_from 1 n)) e
+
+buses-none : (count : ℕ) (ms : List Message) (k : ℕ) → count < k → buses_from count ms k ≡ []
+buses-none count ms k lt =
+    let e : count + 1 - k ≡ 0 = omega arith in
+    ap (λ n. map (net_legs ms) (numbers_from k n)) e
+
+module _ (count : ℕ) (ms : List Message) (rs : List Ranked) (k : ℕ) (net : Net) (p : Delays) (within : k ≤ count) where
+  -- no leg of the bus is left to test
+  pub bus_full : head_of (candidates net p (filter (unranked rs) (net_legs ms k))) ≡ None →
+      first_open rs (buses_from count ms k) ≡ first_open rs (buses_from count ms (k + 1))
+  bus_full e =
+      ap (first_open rs) (buses-more count ms k within)
+      ∙ ap (λ (l : List Leg). or_next l (first_open rs (buses_from count ms (k + 1)))) (candidates-none net p _ e)
+
+  -- one is
+  pub bus_open : (x : Leg) → head_of (candidates net p (filter (unranked rs) (net_legs ms k))) ≡ Some x →
+      first_open rs (buses_from count ms k) ≡ filter (unranked rs) (net_legs ms k)
+  bus_open x e = ap (first_open rs) (buses-more count ms k within) ∙ or_next-candidates net p (filter (unranked rs) (net_legs ms k)) _ x e
+
+pub none_open : (count : ℕ) (ms : List Message) (rs : List Ranked) (k : ℕ) → count < k → first_open rs (buses_from count ms k) ≡ []
+none_open count ms rs k lt = ap (first_open rs) (buses-none count ms k lt)

@@ -1,7 +1,8 @@
 -- The open legs of a bus, one message after another.
-use Rattle.std.proofs.Common.{◌≡◌, ℕ, Bool, true, false, cond, ◌&&◌, eqb, List, ◌∷◌, ◌++◌, map, is_some, Some, None, Option, refl}
+use Rattle.std.proofs.Common.{◌≡◌, ℕ, ◌+◌, ◌<◌, Bool, true, false, cond, ◌&&◌, eqb, List, ◌∷◌, ◌++◌, map, length, get_or, drop, is_some, Some, None, Option, sym, refl, ap, ◌∙◌}
 use Rattle.std.specs.List.{filter}
 use Rattle.std.specs.Option.{option_to_list}
+use Rattle.std.proofs.lemmas.List.{drop_more}
 use Rattle.bus.specs.Legs.{legs_on}
 use Rattle.bus.specs.Numbered.{member}
 use Rattle.bus.specs.declared.leg.Leg.{Leg as BusLeg}
@@ -29,3 +30,9 @@ module _ (rs : List Ranked) (bus : ℕ) where
   pub open_legs-first : (m : Message) (ms : List Message) →
       open_legs (m ∷ ms) rs bus ≡ cond (is_open rs bus m) (leg_at bus m.number ∷ open_legs ms rs bus) (open_legs ms rs bus)
   open_legs-first m ms = leg_by-kept bus (unranked (ranked_of rs)) m (legs_on ms bus) (eqb bus m.source) (member m.destinations bus)
+
+  pub open_more : (ms : List Message) (i : ℕ) (m : Message) → i < length ms → m ≡ get_or ms i m →
+      open_legs (drop i ms) rs bus
+      ≡ cond (is_open rs bus m) (leg_at bus m.number ∷ open_legs (drop (i + 1) ms) rs bus) (open_legs (drop (i + 1) ms) rs bus)
+  open_more ms i m within read =
+      ap (λ l. open_legs l rs bus) (drop_more ms i m within ∙ ap (λ x. x ∷ drop (i + 1) ms) (sym read)) ∙ open_legs-first m (drop (i + 1) ms)

@@ -47,6 +47,15 @@ module _ (b : Board) (x : Leg) (d : ℕ) where
         | inr t ↦ by_rule os (sym (cond-false (has x o) _ _ t) ∙ e)
       ]
 
+-- a leg of a message has its deadline
+own_leg : (m : Message) (bus : ℕ) (leg : BusLeg) → leg_on m bus ≡ Some leg → leg.message.deadline ≡ m.deadline
+own_leg m bus leg e = go (eqb bus m.source) (member m.destinations bus) e
+  where
+    go : (s t : Bool) → cond s (Some (record { message = m; source = true })) (cond t (Some (record { message = m; source = false })) None) ≡ Some leg → leg.message.deadline ≡ m.deadline
+    go true t e = ap (λ l. l.message.deadline) (sym (same-leg e))
+    go false true e = ap (λ l. l.message.deadline) (sym (same-leg e))
+    go false false e = none-leg leg e
+
 module _ (b : Board) (keeps : AllByRecursion Keeps b.rules) (rise : rising_messages b.messages ≡ true) where
   -- where the deadline of the leg that a rule is shown is at most so long, its delay is too
   bounded-by : (limit bus n d : ℕ) (h : ℕ → Bool) (o : Option BusLeg) → ((leg : BusLeg) → o ≡ Some leg → leg.message.deadline ≤ limit) → leg_of (legs_on b.messages bus) n ≡ o →
@@ -72,12 +81,4 @@ module _ (b : Board) (keeps : AllByRecursion Keeps b.rules) (rise : rising_messa
   -- the leg that a rule is shown is the message's
   pub own_delay : (m : Message) → message_of b.messages m.number ≡ Some m → (os : List (List Leg)) (bus : ℕ) → AtMost m.deadline (delays (net_of b) os (leg_at bus m.number))
   own_delay m here os bus =
-      limited m.deadline bus m.number (leg_on m bus) (λ leg e. omega (arith, own_leg leg e)) (legs_of_messages b.messages bus m.number rise ∙ ap (leg_from bus) here) os
-    where
-      own_leg : (leg : BusLeg) → leg_on m bus ≡ Some leg → leg.message.deadline ≡ m.deadline
-      own_leg leg e = go (eqb bus m.source) (member m.destinations bus) e
-        where
-          go : (s t : Bool) → cond s (Some (record { message = m; source = true })) (cond t (Some (record { message = m; source = false })) None) ≡ Some leg → leg.message.deadline ≡ m.deadline
-          go true t e = ap (λ l. l.message.deadline) (sym (same-leg e))
-          go false true e = ap (λ l. l.message.deadline) (sym (same-leg e))
-          go false false e = none-leg leg e
+      limited m.deadline bus m.number (leg_on m bus) (λ leg e. omega (arith, own_leg m bus leg e)) (legs_of_messages b.messages bus m.number rise ∙ ap (leg_from bus) here) os

@@ -1,5 +1,5 @@
 -- Lists of messages that stand by rising number: there are few, a search by number may halve them, and each is found by its number.
-use Rattle.std.proofs.Common.{◌≡◌, ℕ, zero, suc, ◌+◌, ◌<◌, ◌≤◌, true, eqb, ltb, List, [], ◌∷◌, length, get_or, refl, Some, ap, ◌∙◌, inl, inr, arith}
+use Rattle.std.proofs.Common.{◌≡◌, ℕ, zero, suc, ◌+◌, ◌<◌, ◌≤◌, true, eqb, ltb, List, [], ◌∷◌, length, get_or, refl, Some, None, ap, ◌∙◌, inl, inr, arith}
 use Rattle.std.specs.List.Sorted.{IsNonDecreasingBy}
 use Rattle.std.specs.List.{list_all}
 use Rattle.std.proofs.lemmas.List.Folds.{list_all_at}
@@ -12,6 +12,14 @@ use Rattle.boards.specs.Boards.{message_of, messages_from, rising_messages}
 pub messages_from-lower : (n k : ℕ) (ms : List Message) → n ≤ k → messages_from k ms ≡ true → messages_from n ms ≡ true
 messages_from-lower n k [] le h = refl
 messages_from-lower n k (m ∷ ms) le h = grind (arith, nat_tests)
+
+-- no message has a number that is not above the bound
+pub message_of-below : (k n : ℕ) (ms : List Message) → n ≤ k → messages_from k ms ≡ true → message_of ms n ≡ None
+message_of-below k n [] le h = refl
+message_of-below k n (m ∷ ms) le h =
+    let both = and_parts (ltb k m.number) (messages_from m.number ms) h in
+    let above = ltb-true k m.number both.0 in
+    cond-false _ _ _ (ne_eqb m.number n (λ e. omega arith)) ∙ message_of-below m.number n ms (omega arith) both.1
 
 messages_from-few : (k : ℕ) (ms : List Message) → k ≤ 64 → messages_from k ms ≡ true → length ms + k ≤ 64
 messages_from-few k [] le h = omega arith

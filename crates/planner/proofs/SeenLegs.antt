@@ -1,6 +1,6 @@
 -- The legs of a bus that are seen so far, from the highest rank down: one more, and what is known of the row below them.
-use Rattle.std.proofs.Common.{◌≡◌, ℕ, suc, ◌+◌, ◌<◌, ◌≤◌, Bool, true, false, cond, ◌&&◌, ◌||◌, eqb, List, [], ◌∷◌, ◌++◌, map, reverse, length, take, drop, set, unwrap_or, Bor, sym, refl, ap, ◌∙◌, subst, arith}
-use Rattle.std.proofs.lemmas.List.{append_assoc, length_push, map-append, nil_from_length, reverse-append}
+use Rattle.std.proofs.Common.{◌≡◌, ℕ, zero, suc, ◌+◌, ◌-◌, ◌<◌, ◌≤◌, Bool, true, false, cond, ◌&&◌, ◌||◌, eqb, List, [], ◌∷◌, ◌++◌, map, reverse, length, get_or, take, drop, set, unwrap_or, Bor, sym, refl, ap, ◌∙◌, subst, arith}
+use Rattle.std.proofs.lemmas.List.{append_assoc, drop_more, drop_all, length_push, map-append, nil_from_length, reverse-append}
 use Rattle.std.proofs.lemmas.Bool.{eq-eqb, cond-true}
 use Rattle.bus.specs.Legs.{legs_on}
 use Rattle.bus.specs.Numbered.{member}
@@ -63,6 +63,34 @@ order_on-longer rs a r b bus all on =
       order_on-behind a (r ∷ b) bus,
       ap (λ l. length (order_on l bus)) all,
     )
+
+-- ---------------------------------------------------------------- the order of a bus, by places from the end of what is stored
+pub order-none : (rs : List Ranked) (bus : ℕ) → order_on (drop (length rs) rs) bus ≡ []
+order-none rs bus = ap (λ l. order_on l bus) (drop_all (length rs) rs (omega arith))
+
+module _ (rs : List Ranked) (bus left : ℕ) (d : Ranked) (some' : 0 < left) (within : left ≤ length rs) where
+  pub order-before :
+      let r = get_or rs (left - 1) d in
+      let o = order_on (drop left rs) bus in
+      order_on (drop (left - 1) rs) bus ≡ cond (eqb r.bus bus) (leg_at bus r.message ∷ o) o
+  order-before =
+      let e : left - 1 + 1 ≡ left = omega arith in
+      let r = get_or rs (left - 1) d in
+      ap (λ l. order_on l bus) (drop_more rs (left - 1) d (omega arith))
+      ∙ ap (λ k. cond (eqb r.bus bus) (leg_at bus r.message ∷ order_on (drop k rs) bus) (order_on (drop k rs) bus)) e
+
+pub order-shorter : (rs : List Ranked) (bus i : ℕ) → length (order_on (drop i rs) bus) ≤ length (order_on rs bus)
+order-shorter [] bus zero = omega arith
+order-shorter [] bus (suc i) = omega arith
+order-shorter (r ∷ rs) bus zero = omega arith
+order-shorter (r ∷ rs) bus (suc i) = grind (arith, order-shorter rs bus i)
+
+-- a leg of the bus comes below those behind it
+pub order-longer : (rs : List Ranked) (bus left : ℕ) (d : Ranked) → 0 < left → left ≤ length rs → eqb (get_or rs (left - 1) d).bus bus ≡ true →
+    length (order_on (drop left rs) bus) < length (order_on rs bus)
+order-longer rs bus left d some' within on =
+    let e = order-before rs bus left d some' within ∙ cond-true _ _ _ on in
+    omega (arith, ap length e, order-shorter rs bus (left - 1))
 
 -- ---------------------------------------------------------------- rows
 pub length-rows_in : (net : Net) (bus : ℕ) (o : List Leg) → length (rows_in net bus o) ≡ length o

@@ -1,5 +1,5 @@
 -- A run of tries on a network, try by try.
-use Rattle.std.proofs.Common.{◌≡◌, ℕ, zero, suc, ◌+◌, ◌-◌, ◌<◌, true, List, is_some, Some, sym, refl, ap, ◌∙◌, subst, arith}
+use Rattle.std.proofs.Common.{◌≡◌, ◌≤◌, ℕ, zero, suc, ◌+◌, ◌-◌, ◌<◌, true, List, is_some, Some, sym, refl, ap, ◌∙◌, subst, arith}
 use Rattle.bus.specs.Rules.{Meaning}
 use Rattle.search.specs.Net.{Leg, Net}
 use Rattle.search.specs.Stored as walk
@@ -54,6 +54,11 @@ module _ (net : Net) (tries : ℕ) (s : walk.Stage) where
   RunsTo-more made rs x lt h =
       let one : tries - made ≡ suc (tries - (made + 1)) = omega arith in
       grind (arith, rw one at h)
+
+  pub runs-all : (made : ℕ) (w : walk.Stage) → tries ≤ made → RunsTo net tries s made w → walk.try_up_to net tries s ≡ record { made = made; stage = w }
+  runs-all made w le h =
+      let none : tries - made ≡ 0 = omega arith in
+      h ∙ ap (λ (k : ℕ). with_more made (walk.try_up_to net k w)) none ∙ ap (λ (k : ℕ). record { made = k; stage = w }) (omega arith)
 
   RunsTo-over : (made : ℕ) (w : walk.Stage) → walk.is_over w ≡ true → RunsTo net tries s made w →
       walk.try_up_to net tries s ≡ record { made = made; stage = w }

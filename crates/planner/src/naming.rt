@@ -15,8 +15,10 @@ impl Table {
     fn by_bus(&self, rows: &[Spot]) -> bool
         ensures { result ≡ by_bus 1 self.now.buses rows.now }
     {
-        rows.iter().all(|row| (1..=self.buses).contains(&row.bus))
-            && rows.is_sorted_by_key(|row| row.bus)
+        // Range and order in one chain, which ends at the first row out of turn: a chain for each would go over all rows where the buses fall.
+        rows.first()
+            .is_none_or(|row| (1..=self.buses).contains(&row.bus))
+            && rows.is_sorted_by(|row, next| (row.bus..=self.buses).contains(&next.bus))
     }
 
     // Whether the message with this number has a leg on the bus that is not yet seen.

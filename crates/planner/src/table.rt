@@ -112,6 +112,14 @@ impl Table {
         ensures items { self.new.messages.items ≡ withdrawn number self.old.messages.items }
         ensures buses { self.new.buses ≡ self.old.buses }
     {
-        self.messages.retain(|message| message.number != number);
+        // Found and cut out at once: `retain` would go over the messages one by one.
+        let at = self.place_of(number);
+        if self
+            .messages
+            .get(at)
+            .is_some_and(|message| message.number == number)
+        {
+            let _ = self.messages.remove(at);
+        }
     }
 }

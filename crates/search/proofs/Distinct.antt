@@ -1,12 +1,26 @@
 -- Lists in which no leg stands twice: so are what `less` and a test leave of them, and the candidates of a rank.
-use Rattle.std.proofs.Common.{◌≡◌, Bool, true, false, not, List, [], ◌∷◌, ◌++◌, refl, arith}
-use Rattle.std.specs.List.{filter}
+use Rattle.std.proofs.Common.{◌≡◌, ◌<◌, Bool, true, false, not, ◌&&◌, ltb, List, [], ◌∷◌, ◌++◌, refl, arith}
+use Rattle.std.specs.List.{list_all, filter}
 use Rattle.std.proofs.lemmas.Bool.{or_right}
+use Rattle.std.proofs.lemmas.Bool.Decides.{nat_tests}
 use Rattle.search.specs.Net.{Leg, same, Net, has, less, Delays}
 use Rattle.search.specs.Walk.{ready, candidates}
 use Rattle.search.specs.Stored.{behind, distinct}
 use Rattle.search.proofs.Legs.{same-itself, same-tells, has-less, has-append, has_kept}
 use Rattle.search.proofs.Behind.{behind-has}
+
+-- by rising message numbers
+abbrev pub rising : List Leg → Bool
+rising [] = true
+rising (x ∷ l) = list_all (λ y. ltb x.message y.message) l && rising l
+
+rising-past : (x y : Leg) (l : List Leg) → list_all (λ z. ltb x.message z.message) l ≡ true → has y l ≡ true → x.message < y.message
+rising-past x y [] r h = grind arith
+rising-past x y (z ∷ l) r h = grind (arith, nat_tests, rising-past x y l, same-tells y z)
+
+pub rising-distinct : (l : List Leg) → rising l ≡ true → distinct l ≡ true
+rising-distinct [] r = refl
+rising-distinct (x ∷ l) r = grind (arith, rising-distinct l, rising-past x x l)
 
 pub distinct-less : (x : Leg) (l : List Leg) → distinct l ≡ true → distinct (less x l) ≡ true
 distinct-less x [] h = refl

@@ -66,7 +66,7 @@ module _ (net : Net) (rs : List Ranked) (c : Leg) (d : ℕ) where
       kept net rs ≡ true → kept net (record { leg = c; delay = d } ∷ rs) ≡ true
   kept_more e on h = grind (arith, nat_tests)
 
-  placed-more : has c (place_of net rs).open' ≡ true → placed net rs ≡ true → placed net (record { leg = c; delay = d } ∷ rs) ≡ true
+  pub placed-more : has c (place_of net rs).open' ≡ true → placed net rs ≡ true → placed net (record { leg = c; delay = d } ∷ rs) ≡ true
   placed-more on h = grind arith
 
 pub every_stage_is_kept : EveryStageIsKept

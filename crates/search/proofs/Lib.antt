@@ -20,6 +20,7 @@ pub mod Marks
 pub mod Open
 pub mod Orders
 pub mod Over
+pub mod OwnPairs
 pub mod Place
 pub mod RankedLegs
 pub mod Ranking

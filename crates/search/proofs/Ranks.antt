@@ -32,6 +32,9 @@ ranks_at net (r ∷ rs) k =
       count_advance (filled_by net at r.leg ∷ at.frames) (put at.delays r.leg (Some r.delay)) (less r.leg at.open') at.later,
     )
 
+pub ranked_at-most : (net : Net) (rs : List Ranked) → placed net rs ≡ true → length rs ≤ leg_count net.buses
+ranked_at-most net rs k = omega (arith, ranks_at net rs k)
+
 -- one more has room where a leg is open
 pub ranked-fewer : (net : Net) (rs : List Ranked) → placed net rs ≡ true → (x : Leg) → has x (place_of net rs).open' ≡ true →
     length rs < leg_count net.buses
