@@ -2,7 +2,7 @@
 use Rattle.std.proofs.Common.{◌≡◌, Bool, true, false, cond, List, [], ◌∷◌, map, get_or, refl, ap, ◌∙◌, arith}
 use Rattle.std.specs.List.{list_all, flat_map, filter, AllByRecursion}
 use Rattle.std.proofs.lemmas.Bool.{eqb-true}
-use Rattle.std.proofs.lemmas.List.Elements.{All-map, filter_agree, recursion_from_All}
+use Rattle.std.proofs.lemmas.List.Elements.{All-map, recursion_from_All}
 use Rattle.bus.specs.Numbered.{member}
 use Rattle.bus.specs.Rules.{Meaning}
 use Rattle.bus.specs.declared.message.Message.{Message}
@@ -25,7 +25,7 @@ kept-none f h (x ∷ xs) = ap (λ t. cond t (x ∷ filter f xs) (filter f xs)) (
 pub local_no_pairs : (m : Message) → is_local m ≡ true → pairs_of m ≡ []
 local_no_pairs m h =
     ap (λ bits. map (pair_to m) (filter (member bits) (bus_numbers 8))) (eqb-true m.destinations 0 h)
-    ∙ ap (map (pair_to m)) (filter_agree (member 0) (λ _. false) member-none (bus_numbers 8))
+    ∙ ap (map (pair_to m)) (kept-none (member 0) member-none (bus_numbers 8))
 
 no_pairs : (ms : List Message) → list_all is_local ms ≡ true → flat_map pairs_of ms ≡ []
 no_pairs [] h = refl

@@ -1,7 +1,8 @@
 // Prints the delays of the legs of a small trailer: each with nothing above it, and with every other leg of its bus above it.
 #![tactic(auto)]
 
-ghost use Rattle.std.specs.Prelude.{◌≤◌, length, IfOk};
+ghost use Rattle.std.specs.Prelude.{◌≡◌, ◌≤◌, length, IfOk};
+ghost use Rattle.delays.specs.Safe.{safe_count};
 
 mod legs;
 mod row;
@@ -19,14 +20,15 @@ use rows::row_of;
 use std::io;
 use trailer::messages;
 
-// Prints the rows of one bus, and answers how many of its legs are in time in every order.
+// Prints the rows of one bus, and answers how many of its legs can never be late.
 fn print_bus<C: Carrier>(
     rt: &HostRuntime,
     bus: u8,
     rule: &Equation<C>,
     legs: &[Leg],
 ) -> io::Result<usize>
-    ensures { IfOk result (λ safe. safe ≤ length legs.now) }
+    ensures few { IfOk result (λ safe. safe ≤ length legs.now) }
+    ensures count { IfOk result (λ safe. safe ≡ safe_count (C.Carrier.time rule.now.carrier) (C.Carrier.bit rule.now.carrier) legs.now) }
 {
     // A loop that prints and counts: rows gathered first would want memory, and a row is printed whatever memory is left.
     let mut safe: usize = 0;

@@ -52,7 +52,7 @@ impl<C: Carrier> Equation<C> {
     fn jitter(&self, leg: Leg) -> u64
         ensures { result ≡ eq.jitter_of (C.Carrier.time self.now.carrier) leg }
     {
-        // The time is taken for both: only in the one arm it would cost a jump that no processor foresees.
+        // The time is taken for both: in the one arm alone it costs a jump that is foreseen badly.
         let frame = self.frame_time(leg);
         if leg.source {
             leg.message.jitter

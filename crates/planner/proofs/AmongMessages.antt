@@ -1,16 +1,13 @@
 -- Of messages that rise, each is above the bound; and what is read at a place of a list is an element of it.
-use Rattle.std.proofs.Common.{◌≡◌, ℕ, zero, suc, ◌<◌, true, ltb, List, [], ◌∷◌, length, get_or, sym, ap, inl, inr, arith}
-use Rattle.std.proofs.lemmas.Bool.{and_parts, ltb-true}
+use Rattle.std.proofs.Common.{◌≡◌, ℕ, zero, suc, ◌<◌, true, ltb, List, [], ◌∷◌, length, get_or, sym, inl, inr, arith}
+use Rattle.std.proofs.lemmas.Bool.{ltb-true}
 use Rattle.bus.specs.declared.message.Message.{Message}
-use Rattle.search.proofs.Lists.{Among}
+use Rattle.search.proofs.Lists.{Among, list_all-at}
 use Rattle.boards.specs.Boards.{messages_from}
+use Rattle.planner.proofs.Rising.{messages_from-above}
 
 among-above : (k : ℕ) (ms : List Message) (m : Message) → messages_from k ms ≡ true → Among m ms → k < m.number
-among-above k [] m h a = absurd a
-among-above k (x ∷ xs) m h a =
-    let both = and_parts (ltb k x.number) (messages_from x.number xs) h in
-    let above = ltb-true k x.number both.0 in
-    elim a [ inl e ↦ omega (arith, ap (λ v. v.number) e) | inr rest ↦ omega (arith, among-above x.number xs m both.1 rest) ]
+among-above k ms m h a = ltb-true k m.number (list_all-at (λ v. ltb k v.number) m ms (messages_from-above k k ms (omega arith) h) a)
 
 -- what a loop reads is an element
 pub read_among : {X : Type 0} (xs : List X) (i : ℕ) (x : X) → i < length xs → x ≡ get_or xs i x → Among x xs

@@ -1,7 +1,8 @@
 -- The buses from bus i to bus n, one after another.
-use Rattle.std.proofs.Common.{◌≡◌, ℕ, suc, ◌+◌, ◌-◌, ◌<◌, ◌≤◌, Bool, ◌&&◌, List, [], ◌∷◌, sym, refl, ap, ◌∙◌, add-one, arith}
+use Rattle.std.proofs.Common.{◌≡◌, ℕ, ◌+◌, ◌-◌, ◌<◌, ◌≤◌, Bool, ◌&&◌, List, [], ◌∷◌, sym, ap, ◌∙◌, arith}
 use Rattle.std.specs.List.{list_all}
 use Rattle.boards.specs.Nets.{numbers_from}
+use Rattle.planner.proofs.Destinations.{numbers_more}
 
 -- the buses from i to n
 unfoldable pub buses_to : ℕ → ℕ → List ℕ
@@ -13,9 +14,7 @@ buses-first n = let e : n + 1 - 1 ≡ n = omega arith in ap (numbers_from 1) e
 
 pub buses-more : (n i : ℕ) → i ≤ n → buses_to n i ≡ i ∷ buses_to n (i + 1)
 unfolding buses_to
-buses-more n i h =
-    let e : n + 1 - i ≡ suc (n + 1 - (i + 1)) = omega arith in
-    ap (numbers_from i) e ∙ ap (λ k. i ∷ numbers_from k (n + 1 - (i + 1))) (rw add-one refl)
+buses-more n i h = numbers_more i (n + 1) (omega arith)
 
 pub buses-done : (n i : ℕ) → n < i → buses_to n i ≡ []
 unfolding buses_to

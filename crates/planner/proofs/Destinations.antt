@@ -33,7 +33,8 @@ pub pairs-by_bus : (f : Pair → Bool) (m : Message) → from_bus (λ k. not (me
 unfolding from_bus
 pairs-by_bus f m = pairs_of-by_bus f m
 
-numbers_more : (i n : ℕ) → i < n → numbers_from i (n - i) ≡ i ∷ numbers_from (i + 1) (n - (i + 1))
+-- the numbers from i on, below n
+pub numbers_more : (i n : ℕ) → i < n → numbers_from i (n - i) ≡ i ∷ numbers_from (i + 1) (n - (i + 1))
 numbers_more i n h =
     let e : n - i ≡ suc (n - (i + 1)) = omega arith in
     ap (numbers_from i) e ∙ ap (λ k. i ∷ numbers_from k (n - (i + 1))) (rw add-one refl)

@@ -39,6 +39,18 @@ module _ (rs : List Ranked) (s : Stage) (start : s ≡ Start) where
       ap (λ (l : Walked). record { board = b; left = l })
       (ap (λ x. walk.left (net_of b) (stage_of (net_of b) rs x)) start ∙ first-stage_has_all (net_of b))
 
+-- a change that is accepted
+module _ (b : Board) (l : Walked) (ms : List Message) (t : Standing) (new : t ≡ fresh (with_messages b ms)) where
+  pub Gives-enter : (e : Entry) (m : Message) → enter_fault (bus_count b) b.messages e ≡ None → Holds e m → ms ≡ entered m b.messages →
+      Gives (record { board = b; left = l }) (enter e) done t
+  Gives-enter e m none holds put =
+      Unless-none _ (record { board = b; left = l }) done t _ none (m, holds, refl, new ∙ ap (λ ms. fresh (with_messages b ms)) put)
+
+  pub Gives-withdraw : (n : ℕ) → withdraw_fault b.messages n ≡ None → ms ≡ withdrawn n b.messages →
+      Gives (record { board = b; left = l }) (withdraw n) done t
+  Gives-withdraw n none took =
+      Unless-none _ (record { board = b; left = l }) done t _ none (refl, new ∙ ap (λ ms. fresh (with_messages b ms)) took)
+
 -- a board of these parts with these messages, whose walk is at its start
 module _ {S : Type 0} (f : S → Meaning) (rules : List S) (gateway : ℕ) where
   abbrev pub begun : List Message → Standing
@@ -57,8 +69,7 @@ module _ {S : Type 0} (f : S → Meaning) (rules : List S) (gateway : ℕ) where
   pub entered-gives : (ms after : List Message) (l : Walked) (e : Entry) (m : Message) → enter_fault (length rules) ms e ≡ None → Holds e m →
       after ≡ entered m ms → Gives (at ms l) (enter e) done (begun after)
   entered-gives ms after l e m none holds put =
-      Unless-none _ (at ms l) done (begun after) _ (ap (λ n. enter_fault n ms e) (length-map rules f) ∙ none)
-      (m, holds, refl, ap begun put ∙ begun_fresh (entered m ms))
+      Gives-enter (board_of (map f rules) gateway ms) l after (begun after) (begun_fresh after) e m (ap (λ n. enter_fault n ms e) (length-map rules f) ∙ none) holds put
 
   pub enter_refused : (ms : List Message) (l : Walked) (e : Entry) (r : Refusal) → enter_fault (length rules) ms e ≡ Some r →
       Gives (at ms l) (enter e) (refused r) (at ms l)
@@ -66,24 +77,11 @@ module _ {S : Type 0} (f : S → Meaning) (rules : List S) (gateway : ℕ) where
 
   pub withdrawn-gives : (ms after : List Message) (l : Walked) (n : ℕ) → withdraw_fault ms n ≡ None → after ≡ withdrawn n ms →
       Gives (at ms l) (withdraw n) done (begun after)
-  withdrawn-gives ms after l n none took =
-      Unless-none _ (at ms l) done (begun after) _ none (refl, ap begun took ∙ begun_fresh (withdrawn n ms))
+  withdrawn-gives ms after l n none took = Gives-withdraw (board_of (map f rules) gateway ms) l after (begun after) (begun_fresh after) n none took
 
   pub withdraw_refused : (ms : List Message) (l : Walked) (n : ℕ) (r : Refusal) → withdraw_fault ms n ≡ Some r →
       Gives (at ms l) (withdraw n) (refused r) (at ms l)
   withdraw_refused ms l n r some = Unless-some _ (at ms l) (at ms l) _ r some refl
-
--- a change that is accepted
-module _ (b : Board) (l : Walked) (ms : List Message) (t : Standing) (new : t ≡ fresh (with_messages b ms)) where
-  pub Gives-enter : (e : Entry) (m : Message) → enter_fault (bus_count b) b.messages e ≡ None → Holds e m → ms ≡ entered m b.messages →
-      Gives (record { board = b; left = l }) (enter e) done t
-  Gives-enter e m none holds put =
-      Unless-none _ (record { board = b; left = l }) done t _ none (m, holds, refl, new ∙ ap (λ ms. fresh (with_messages b ms)) put)
-
-  pub Gives-withdraw : (n : ℕ) → withdraw_fault b.messages n ≡ None → ms ≡ withdrawn n b.messages →
-      Gives (record { board = b; left = l }) (withdraw n) done t
-  Gives-withdraw n none took =
-      Unless-none _ (record { board = b; left = l }) done t _ none (refl, new ∙ ap (λ ms. fresh (with_messages b ms)) took)
 
 -- a board that is made of rules with the laws
 pub Sound-board_of : {S : Type 0} (f : S → Meaning) → ((s : S) → Keeps (f s)) → (rules : List S) (gateway : ℕ) (ms : List Message) → length rules ≤ 8 →

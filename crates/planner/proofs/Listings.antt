@@ -36,18 +36,6 @@ pub record LookTests (count : ℕ) (ms : List Message) (bus n : ℕ) : Type 0 wh
   pub high : bus ≤ count
   pub leg : is_some (leg_from bus (message_of ms n)) ≡ true
 
-pub look_fault-tests : (count : ℕ) (ms : List Message) (bus n : ℕ) → look_fault count ms true bus n ≡ None → LookTests count ms bus n
-look_fault-tests count ms bus n e =
-    let range = refused_if-none (not (inside buses bus && inside numbers n)) Range _ e in
-    let board = refused_if-none (not (leb bus count)) NoBus _ range.1 in
-    let leg = refused_if-none (not (is_some (leg_from bus (message_of ms n)))) NoLeg _ board.1 in
-    let bounds = and_parts (inside buses bus) (inside numbers n) (not-false _ range.0) in
-    record {
-      low = leb-true 1 bus (and_parts (leb 1 bus) (leb bus 8) bounds.0).0;
-      high = leb-true bus count (not-false _ board.0);
-      leg = not-false _ leg.0;
-    }
-
 -- what an accepted look has tested: with that, that the walk has ended
 pub look_tests : (count : ℕ) (ms : List Message) (found : Bool) (bus n : ℕ) → look_fault count ms found bus n ≡ None → LookTests count ms bus n × (found ≡ true)
 look_tests count ms found bus n e =
@@ -63,6 +51,9 @@ look_tests count ms found bus n e =
       },
       not-false _ end.0,
     )
+
+pub look_fault-tests : (count : ℕ) (ms : List Message) (bus n : ℕ) → look_fault count ms true bus n ≡ None → LookTests count ms bus n
+look_fault-tests count ms bus n e = (look_tests count ms true bus n e).0
 
 look_fault-unfound : (count : ℕ) (ms : List Message) (bus n : ℕ) → look_fault count ms true bus n ≡ None → look_fault count ms false bus n ≡ Some NotFound
 look_fault-unfound count ms bus n e =

@@ -1,5 +1,5 @@
 -- The bus of the next rank: the first, by rising number, that has an open leg.
-use Rattle.std.proofs.Common.{◌≡◌, ℕ, zero, suc, ◌+◌, ◌-◌, ◌<◌, ◌≤◌, true, List, [], ◌∷◌, map, length, Some, None, sym, refl, ap, ◌∙◌, ap₂, add-one, arith}
+use Rattle.std.proofs.Common.{◌≡◌, ℕ, zero, suc, ◌+◌, ◌-◌, ◌<◌, ◌≤◌, true, List, [], ◌∷◌, map, length, Some, None, sym, refl, ap, ◌∙◌, ap₂, arith}
 use Rattle.std.specs.List.{filter}
 use Rattle.bus.specs.declared.message.Message.{Message}
 use Rattle.search.specs.Net.{Leg, Net, has, less, Delays}
@@ -11,6 +11,7 @@ use Rattle.search.proofs.RankedLegs.{unranked-less}
 use Rattle.boards.specs.Nets.{net_legs, numbers_from}
 use Rattle.boards.proofs.Buses.{has-its_bus}
 use Rattle.planner.specs.Stages.{layout, buses_from}
+use Rattle.planner.proofs.Destinations.{numbers_more}
 
 module _ (ms : List Message) (rs : List Ranked) where
   -- the legs of a bus that are not ranked
@@ -79,11 +80,7 @@ or_next-candidates net p (y ∷ l) k x e = refl
 
 -- ---------------------------------------------------------------- bus after bus
 buses-more : (count : ℕ) (ms : List Message) (k : ℕ) → k ≤ count → buses_from count ms k ≡ net_legs ms k ∷ buses_from count ms (k + 1)
-buses-more count ms k le =
-    let more : count + 1 - k ≡ suc (count - k) = omega arith in
-    let rest : count - k ≡ count + 1 - (k + 1) = omega arith in
-    ap (λ n. map (net_legs ms) (numbers_from k n)) more
-    ∙ ap₂ (λ i n. net_legs ms k ∷ map (net_legs ms) (numbers_from i n)) (sym (add-one k)) rest
+buses-more count ms k le = ap (map (net_legs ms)) (numbers_more k (count + 1) (omega arith))
 
 pub buses-all : (count : ℕ) (ms : List Message) → (layout count ms).buses ≡ buses_from count ms 1
 buses-all count ms =

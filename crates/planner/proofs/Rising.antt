@@ -34,7 +34,7 @@ pub rising_messages-few : (ms : List Message) → rising_messages ms ≡ true �
 rising_messages-few ms h = omega (arith, messages_from-few 0 ms (omega arith) h)
 
 -- each number is above the bound
-messages_from-above : (n k : ℕ) (ms : List Message) → n ≤ k → messages_from k ms ≡ true → list_all (λ m. ltb n m.number) ms ≡ true
+pub messages_from-above : (n k : ℕ) (ms : List Message) → n ≤ k → messages_from k ms ≡ true → list_all (λ m. ltb n m.number) ms ≡ true
 messages_from-above n k [] le h = refl
 messages_from-above n k (m ∷ ms) le h = grind (arith, nat_tests, messages_from-above n m.number ms)
 
